@@ -1,0 +1,84 @@
+// What is checked before settings are made.
+ghost use Prim.Native.Nat.{ℕ, _≤_};
+ghost use mathlib.Core.Path.{_≡_};
+ghost use lib.ListN.{length, take};
+ghost use Rattle.std.specs.Results.{Cases};
+ghost use Rattle.std.specs.declared.option.Option.the-variants.{Some, None};
+ghost use Rattle.vocabulary.specs.Rules.{among as isAmong, inRange, fitsBehind, wrongNumber, countFits, majorsFit};
+ghost use Rattle.vocabulary.specs.Settings.{unsettled as unsettledAt};
+use crate::fault::Fault;
+use crate::fault::Layer;
+use crate::fault::Refusal;
+use crate::versions::Versions;
+
+// How many STMs there may be, and the highest number that one may have.
+const MOST: usize = 8;
+
+const HIGHEST: u16 = 254;
+
+// The refusal of settings, at the place of the wrong part.
+pub fn unsettled(place: usize) -> Fault
+    ensures { λ r. ⌜ r ≡ unsettledAt place ⌝ }
+{
+    Fault::new(Refusal::Settings, place, Layer::Control)
+}
+
+// 1 to 8 numbers.
+pub fn count_fits(numbers: &[u16]) -> bool
+    ensures { λ r. ⌜ r ≡ countFits (now (numbers .entry)) ⌝ }
+{
+    let count = numbers.len();
+    1 <= count && count <= MOST
+}
+
+// The highest major is 0 to 3 above the lowest.
+pub fn majors_fit(versions: &Versions) -> bool
+    ensures { λ r. ⌜ r ≡ majorsFit (now (versions .entry)) ⌝ }
+{
+    let lowest = versions.lowest as u16;
+    let highest = versions.highest as u16;
+    lowest <= highest && highest <= lowest + 3
+}
+
+// 1 to 254.
+fn in_range(number: u16) -> bool
+    ensures { λ r. ⌜ r ≡ inRange number ⌝ }
+{
+    1 <= number && number <= HIGHEST
+}
+
+// Whether a number is one of these.
+fn among(number: u16, numbers: &[u16]) -> bool
+    ensures { λ r. ⌜ r ≡ isAmong number (now (numbers .entry)) ⌝ }
+{
+    for x in numbers {
+        if number == *x {
+            return true;
+        }
+    }
+    false
+}
+
+// A number in range that is none of the earlier ones.
+fn fits_behind(earlier: &[u16], number: u16) -> bool
+    ensures { λ r. ⌜ r ≡ fitsBehind (now (earlier .entry)) number ⌝ }
+{
+    in_range(number) && !among(number, earlier)
+}
+
+// The numbers, 8 at most, each in range and different from those before it, or the refusal of the
+// first that is not.
+pub fn proper(numbers: &[u16]) -> Result<[u8; 8], Fault>
+    requires { ⌜ length (now numbers) ≤ 8 ⌝ }
+    ensures { λ r. ⌜ Cases r (λ held. (length held ≡ 8) × (take (length (now (numbers .entry))) held ≡ now (numbers .entry)) × (wrongNumber (now (numbers .entry)) ≡ None)) (λ f. ((place : ℕ) × (f ≡ unsettledAt place) × (wrongNumber (now (numbers .entry)) ≡ Some place))) ⌝ }
+{
+    let mut held = [0u8; 8];
+    for (i, x) in numbers.iter().enumerate() {
+        let number = *x;
+        if !fits_behind(&numbers[0..i], number) {
+            return Err(unsettled(i + 1));
+        }
+        held[i] = number as u8;
+    }
+    Ok(held)
+}
