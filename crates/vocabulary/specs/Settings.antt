@@ -35,12 +35,12 @@ abbrev pub wrongPart : List ℕ → Versions → ℕ → Option ℕ
 wrongPart ns v t = cond (countFits ns) (elim (wrongNumber ns) [ Some place ↦ Some place | None ↦ cond (majorsFit v) (cond (taken t) (Some 10) None) (Some 9) ]) (Some 0)
 
 -- Settings with a wrong part are refused by 1 at its place, layer control.
-abbrev pub unsettled : ℕ → Fault
-unsettled place = faultAt refusal.Settings place layer.Control
+abbrev pub improper : ℕ → Fault
+improper place = faultAt refusal.Settings place layer.Control
 
 -- What is answered to numbers, versions and a trip number.
-abbrev pub settle : List ℕ → Versions → ℕ → Result Agreed Fault
-settle ns v t = elim (wrongPart ns v t) [ Some place ↦ Err (unsettled place) | None ↦ Ok record { numbers = ns; versions = v; trip = t } ]
+abbrev pub settingsOf : List ℕ → Versions → ℕ → Result Agreed Fault
+settingsOf ns v t = elim (wrongPart ns v t) [ Some place ↦ Err (improper place) | None ↦ Ok record { numbers = ns; versions = v; trip = t } ]
 
 -- An answer, by what it means.
 abbrev pub answered : Result Settings Fault → Result Agreed Fault

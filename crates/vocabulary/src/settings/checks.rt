@@ -5,7 +5,7 @@ ghost use lib.ListN.{length, take};
 ghost use Rattle.std.specs.Results.{Cases};
 ghost use Rattle.std.specs.declared.option.Option.the-variants.{Some, None};
 ghost use Rattle.vocabulary.specs.Rules.{among as isAmong, inRange, fitsBehind, wrongNumber, countFits, majorsFit};
-ghost use Rattle.vocabulary.specs.Settings.{unsettled as unsettledAt};
+ghost use Rattle.vocabulary.specs.Settings.{improper as improperAt};
 use crate::fault::Fault;
 use crate::fault::Layer;
 use crate::fault::Refusal;
@@ -17,8 +17,8 @@ const MOST: usize = 8;
 const HIGHEST: u16 = 254;
 
 // The refusal of settings, at the place of the wrong part.
-pub fn unsettled(place: usize) -> Fault
-    ensures { λ r. ⌜ r ≡ unsettledAt place ⌝ }
+pub fn improper(place: usize) -> Fault
+    ensures { λ r. ⌜ r ≡ improperAt place ⌝ }
 {
     Fault::new(Refusal::Settings, place, Layer::Control)
 }
@@ -70,13 +70,13 @@ fn fits_behind(earlier: &[u16], number: u16) -> bool
 // first that is not.
 pub fn proper(numbers: &[u16]) -> Result<[u8; 8], Fault>
     requires { ⌜ length (now numbers) ≤ 8 ⌝ }
-    ensures { λ r. ⌜ Cases r (λ held. (length held ≡ 8) × (take (length (now (numbers .entry))) held ≡ now (numbers .entry)) × (wrongNumber (now (numbers .entry)) ≡ None)) (λ f. ((place : ℕ) × (f ≡ unsettledAt place) × (wrongNumber (now (numbers .entry)) ≡ Some place))) ⌝ }
+    ensures { λ r. ⌜ Cases r (λ held. (length held ≡ 8) × (take (length (now (numbers .entry))) held ≡ now (numbers .entry)) × (wrongNumber (now (numbers .entry)) ≡ None)) (λ f. ((place : ℕ) × (f ≡ improperAt place) × (wrongNumber (now (numbers .entry)) ≡ Some place))) ⌝ }
 {
     let mut held = [0u8; 8];
     for (i, x) in numbers.iter().enumerate() {
         let number = *x;
         if !fits_behind(&numbers[0..i], number) {
-            return Err(unsettled(i + 1));
+            return Err(improper(i + 1));
         }
         held[i] = number as u8;
     }

@@ -1,11 +1,11 @@
 ghost use mathlib.Core.Path.{_≡_};
 ghost use Rattle.vocabulary.specs.Rules.{minorOf};
-ghost use Rattle.vocabulary.specs.Settings.{agreed, answered, settle};
+ghost use Rattle.vocabulary.specs.Settings.{agreed, answered, settingsOf};
 use super::Settings;
 use super::checks::count_fits;
+use super::checks::improper;
 use super::checks::majors_fit;
 use super::checks::proper;
-use super::checks::unsettled;
 use crate::fault::Fault;
 use crate::trip::TripNumber;
 use crate::versions::Versions;
@@ -18,17 +18,17 @@ const TRIP: usize = 10;
 impl Settings {
     // Settings of these parts, or a refusal with the place of the first wrong one.
     pub fn new(numbers: &[u16], versions: Versions, trip: u8) -> Result<Settings, Fault>
-        ensures { λ r. ⌜ answered r ≡ settle (now (numbers .entry)) versions trip ⌝ }
+        ensures { λ r. ⌜ answered r ≡ settingsOf (now (numbers .entry)) versions trip ⌝ }
     {
         if !count_fits(numbers) {
-            return Err(unsettled(0));
+            return Err(improper(0));
         }
         let held = proper(numbers)?;
         if !majors_fit(&versions) {
-            return Err(unsettled(MAJORS));
+            return Err(improper(MAJORS));
         }
         let Some(trip) = TripNumber::new(trip) else {
-            return Err(unsettled(TRIP));
+            return Err(improper(TRIP));
         };
         Ok(Settings {
             numbers: held,

@@ -18,7 +18,7 @@ returns-then-not-fits-behind c =
     let i = c .loop-i .i in
     let xs = c .args .numbers .now in
     let e = front i (getD xs i 0) xs false (c .if-not-fits-behind .ensures tt) in
-    (i + 1, c .unsettled .ensures, sym (c .loop-i .inv .2) ∙ wrong-here xs i (i + 1) (c .loop-i-test .taken) e)
+    (i + 1, c .improper .ensures, sym (c .loop-i .inv .2) ∙ wrong-here xs i (i + 1) (c .loop-i-test .taken) e)
 
 pub loop-i-again : need.loop-i-again
 loop-i-again c =
