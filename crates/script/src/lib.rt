@@ -3,5 +3,6 @@
 pub mod event;
 pub mod numbers;
 pub mod parts;
+pub mod print;
 pub mod reader;
 pub mod text;

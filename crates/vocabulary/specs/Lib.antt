@@ -4,5 +4,6 @@ pub mod Causes
 pub mod Levels
 pub mod Refusals
 pub mod Octets
+pub mod Hex
 pub mod Rules
 pub mod Settings

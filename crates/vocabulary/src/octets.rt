@@ -4,6 +4,7 @@ ghost use mathlib.Core.Path.{_≡_};
 ghost use lib.ListN.{length};
 
 pub mod ops;
+pub mod text;
 
 // 1 to N octets. What it means is the list of them; the places behind them hold 0.
 #[derive(Clone, Copy)]
