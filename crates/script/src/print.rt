@@ -30,7 +30,11 @@ pub impl fmt::Display for Event as EventDisplay {
             Event::Lost(number) => write!(f, "l {number}"),
             Event::FinalLoss(number) => write!(f, "f {number}"),
             Event::Message(octets) => write!(f, "m {octets}"),
-            Event::Status { level, number, mode } => write!(f, "s {level} {number} {mode}"),
+            Event::Status {
+                level,
+                number,
+                mode,
+            } => write!(f, "s {level} {number} {mode}"),
             Event::Announce(number) => write!(f, "a {number}"),
             Event::TrainData(true) => write!(f, "v 1"),
             Event::TrainData(false) => write!(f, "v 0"),

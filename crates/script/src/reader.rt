@@ -4,6 +4,7 @@ ghost use Rattle.std.specs.Options.{mapped};
 ghost use lib.ListN.{take};
 ghost use Rattle.script.specs.Grammar.{call as callOf, came, onePart, oneNumber, noPart, numbers, three, flag, reading, onto, sizedOctets};
 ghost use Rattle.script.specs.Meaning.{said, numbersOf, toCome};
+ghost use Rattle.script.specs.Printed.{ReadsBack};
 use crate::event::Event;
 use crate::numbers::Numbers;
 use crate::parts::Parts;
@@ -106,9 +107,10 @@ fn call(letter: char, parts: Parts) -> Option<Event>
     }
 }
 
-// What a line says, if it is readable.
+// What a line says, if it is readable. Any event, printed and read again, is that event.
 pub fn read_line(line: &[u8]) -> Option<Event>
-    ensures { λ r. ⌜ mapped said r ≡ reading (now (line .entry)) ⌝ }
+    ensures value { λ r. ⌜ mapped said r ≡ reading (now (line .entry)) ⌝ }
+    ensures back { λ r. ⌜ ReadsBack ⌝ }
 {
     if line.len() > LONGEST {
         return None;

@@ -16,9 +16,9 @@ module _ {W X : Type 0} (took : W → List ℕ → W → Type 0) (text : X → L
 
   -- an item behind those before it
   pub put-item : (i : ℕ) (d : X) (f g h : Formatter W) → i < length xs
-    → Put took f (joined text (take i xs)) g → Put took g (text (getD xs i d)) h → Put took f (joined text (take (i + 1) xs)) h
+      → Put took f (joined text (take i xs)) g → Put took g (text (getD xs i d)) h → Put took f (joined text (take (i + 1) xs)) h
   put-item i d f g h l p q =
-    put-is took f _ _ h (joined-more text [] (take i xs) (getD xs i d) ∙ ap (joined text) (sym (take-more xs i d l))) (put-more took f _ g _ h p q)
+      put-is took f _ _ h (joined-more text [] (take i xs) (getD xs i d) ∙ ap (joined text) (sym (take-more xs i d l))) (put-more took f _ g _ h p q)
 
   -- and at the end all of them
   pub put-all : (i : ℕ) (f g : Formatter W) → length xs ≤ i → Put took f (joined text (take i xs)) g → Put took f (joined text xs) g

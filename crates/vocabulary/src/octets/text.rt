@@ -12,7 +12,11 @@ fn hex_digit(value: u8) -> char
     requires { ⌜ value < 16 ⌝ }
     ensures { λ r. ⌜ r ≡ hexDigit value ⌝ }
 {
-    if value < 10 { char::from(b'0' + value) } else { char::from(b'A' - 10 + value) }
+    if value < 10 {
+        char::from(b'0' + value)
+    } else {
+        char::from(b'A' - 10 + value)
+    }
 }
 
 // Two digits for each octet, unspaced.

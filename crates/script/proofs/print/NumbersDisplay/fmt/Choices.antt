@@ -7,4 +7,4 @@ use Rattle.script.proofs.print.NumbersDisplay.fmt.Given as given
 
 abbrev pub Inv-loop-number : given.InvT-loop-number
 Inv-loop-number g l =
-  Plain (l .entry .f) → Put (g .W·Write .took) (l .entry .f) (joined spacedNumber (take (l .number-index) (numbersOf (l .self)))) (l .f)
+    Plain (l .entry .f) → Put (g .W·Write .took) (l .entry .f) (joined spacedNumber (take (l .number-index) (numbersOf (l .self)))) (l .f)

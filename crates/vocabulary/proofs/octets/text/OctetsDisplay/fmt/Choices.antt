@@ -7,4 +7,4 @@ use Rattle.vocabulary.proofs.octets.text.OctetsDisplay.fmt.Given as given
 
 abbrev pub Inv-loop-octet : given.InvT-loop-octet
 Inv-loop-octet g l =
-  Plain (l .entry .f) → Put (g .W·Write .took) (l .entry .f) (joined octetText (take (l .octet-index) (octetsOf (l .self)))) (l .f)
+    Plain (l .entry .f) → Put (g .W·Write .took) (l .entry .f) (joined octetText (take (l .octet-index) (octetsOf (l .self)))) (l .f)
