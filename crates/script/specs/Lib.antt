@@ -1,4 +1,5 @@
 pub mod Text
 pub mod Grammar
 pub mod Printed
+pub mod Lines
 pub mod Meaning
