@@ -8,15 +8,15 @@ use Rattle.std.proofs.shelf.Lists.{take-more-set, take-all, length-push, length
 
 -- one more, while there is room
 pub kept-more : {X : Type 0} (k : ℕ) (xs : List X) (n : ℕ) (x : X) → length xs ≡ k → n < k
-  → take (n + 1) (set xs n x) ≡ take k (take n xs ++ x ∷ [])
+    → take (n + 1) (set xs n x) ≡ take k (take n xs ++ x ∷ [])
 kept-more k xs n x full room =
-  let h : n < length xs = omega arith in
-  let e = length-push (take n xs) x in
-  let f = length-take-le n xs (omega arith) in
-  take-more-set xs n x h ∙ sym (take-all k (take n xs ++ x ∷ []) (omega arith))
+    let h : n < length xs = omega arith in
+    let e = length-push (take n xs) x in
+    let f = length-take-le n xs (omega arith) in
+    take-more-set xs n x h ∙ sym (take-all k (take n xs ++ x ∷ []) (omega arith))
 
 -- none more, once there is no room
 pub kept-all : {X : Type 0} (k : ℕ) (xs : List X) (n : ℕ) (x : X) → length xs ≡ k → n ≡ k → take n xs ≡ take k (take n xs ++ x ∷ [])
 kept-all k xs n x full e =
-  let f = length-take-le n xs (omega arith) in
-  sym (take-at (take n xs) (x ∷ []) k (omega arith))
+    let f = length-take-le n xs (omega arith) in
+    sym (take-at (take n xs) (x ∷ []) k (omega arith))

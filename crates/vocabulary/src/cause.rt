@@ -4,7 +4,7 @@ ghost use Rattle.vocabulary.specs.Numbers.{caseOf, Names};
 ghost use Rattle.vocabulary.specs.Causes.{causeNumber, causes};
 
 // The causes of failure, with the conditions of SUBSET-035 that they stand for.
-#[derive(Clone, Copy, PartialEq, Eq, Debug)]
+#[derive(Clone, Copy, PartialEq, Eq)]
 pub enum Cause {
     // A request that the held state does not allow (A16).
     Request,

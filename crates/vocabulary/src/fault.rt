@@ -4,7 +4,7 @@ ghost use Rattle.vocabulary.specs.Numbers.{caseOf, Names};
 ghost use Rattle.vocabulary.specs.Refusals.{refusalNumber, refusals, layerName, faultAt, faultNumber};
 
 // The layer that refuses.
-#[derive(Clone, Copy, PartialEq, Eq, Debug)]
+#[derive(Clone, Copy, PartialEq, Eq)]
 pub enum Layer {
     Control,
     Message,
@@ -29,7 +29,7 @@ impl Layer {
 }
 
 // Why something is refused.
-#[derive(Clone, Copy, PartialEq, Eq, Debug)]
+#[derive(Clone, Copy, PartialEq, Eq)]
 pub enum Refusal {
     // Settings that do not agree with themselves.
     Settings,
@@ -103,7 +103,7 @@ impl Refusal {
 
 // A refusal with the place that it is about, a bit of a message, an octet of a file or a part of
 // the settings (0 where there is none), and the layer that refuses.
-#[derive(Clone, Copy, PartialEq, Eq, Debug)]
+#[derive(Clone, Copy, PartialEq, Eq)]
 pub struct Fault {
     pub cause: Refusal,
     pub place: usize,

@@ -4,7 +4,7 @@ ghost use Rattle.vocabulary.specs.Numbers.{caseOf, Names};
 ghost use Rattle.vocabulary.specs.Levels.{levelNumber, levels};
 
 // Levels as SUBSET-026 numbers them: in level NTC a national system, named by its number, is in charge.
-#[derive(Clone, Copy, PartialEq, Eq, Debug)]
+#[derive(Clone, Copy, PartialEq, Eq)]
 pub enum Level {
     Zero,
     Ntc,

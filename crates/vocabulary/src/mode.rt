@@ -4,7 +4,7 @@ ghost use Rattle.vocabulary.specs.Numbers.{caseOf, Names};
 ghost use Rattle.vocabulary.specs.Levels.{modeNumber, modes};
 
 // Modes as SUBSET-026 numbers them.
-#[derive(Clone, Copy, PartialEq, Eq, Debug)]
+#[derive(Clone, Copy, PartialEq, Eq)]
 pub enum Mode {
     FullSupervision,
     OnSight,

@@ -5,7 +5,7 @@ ghost use Rattle.vocabulary.specs.States.{orderNumber, orders, targetOf};
 use crate::state::State;
 
 // An order to go to a state. The Failure order is none of these: no report answers it.
-#[derive(Clone, Copy, PartialEq, Eq, Debug)]
+#[derive(Clone, Copy, PartialEq, Eq)]
 pub enum Order {
     ToConfiguration,
     ToDataEntry,

@@ -4,7 +4,7 @@ ghost use Rattle.vocabulary.specs.Numbers.{caseOf, Names};
 ghost use Rattle.vocabulary.specs.States.{stateNumber, states};
 
 // What an STM reports of itself. `NoPower` is never sent: a unit is there before its first report.
-#[derive(Clone, Copy, PartialEq, Eq, Debug)]
+#[derive(Clone, Copy, PartialEq, Eq)]
 pub enum State {
     NoPower,
     PowerOn,

@@ -6,7 +6,7 @@ ghost use Rattle.vocabulary.specs.Rules.{taken};
 pub mod ops;
 
 // Any packet number that no other known packet has.
-#[derive(Clone, Copy, Debug)]
+#[derive(Clone, Copy)]
 pub struct TripNumber {
     number: u8,
     ghost free: { taken number ≡ false },

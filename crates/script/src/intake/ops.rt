@@ -18,7 +18,10 @@ impl Intake {
     pub fn new() -> Intake
         ensures { λ r. ⌜ soFar r ≡ [] ⌝ }
     {
-        Intake { octets: [0; 513], count: 0 }
+        Intake {
+            octets: [0; 513],
+            count: 0,
+        }
     }
 
     // One octet of the line more.

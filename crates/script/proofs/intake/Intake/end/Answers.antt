@@ -6,5 +6,5 @@ use Rattle.script.proofs.intake.Intake.end.Needs as need
 
 pub returns : need.returns
 returns c =
-  let s = c .args .self .now in
-  record { value = c .read-line-event .ensures .value ∙ ap (λ n. reading (take n (s .octets))) (sub-zero (s .count)); after = refl }
+    let s = c .args .self .now in
+    record { value = c .read-line-event .ensures .value ∙ ap (λ n. reading (take n (s .octets))) (sub-zero (s .count)); after = refl }
