@@ -6,7 +6,6 @@ use mathlib.Core.List.{List, [], _∷_, _++_, append-assoc, append-nil}
 use native.Mathlib.Omega.{arith}
 use native.Mathlib.Nat.{sub-zero}
 use lib.Dec.{eqb, leb}
-use borrow.Author.Tests.{le-leb, lt-leb}
 use lib.ListN.{length, take, drop, getD, set, length-take, length-append}
 use Rattle.std.specs.Options.{mapped}
 use Rattle.std.specs.declared.option.Option.{Option}
@@ -118,13 +117,12 @@ called-one (c ∷ []) ps h = refl
 called-one (c ∷ (d ∷ cs)) ps h = absurd (omega arith)
 
 -- the call behind the first part of a line that is not too long
-pub reads : (line first : List ℕ) (c : ℕ) → length line ≤ 512 → first ≡ firstPart line → length first ≡ 1 → c ≡ getD first 0 0
+pub reads : (line first : List ℕ) (c : ℕ) → leb (length line) 512 ≡ true → first ≡ firstPart line → length first ≡ 1 → c ≡ getD first 0 0
     → call c (behind (take (length line - length first) (drop (length first) line))) ≡ reading line
-reads line first c h e l f =
-    let short : leb (length line) 512 ≡ true = le-leb _ _ h in
+reads line first c short e l f =
     let rest : behind (take (length line - length first) (drop (length first) line)) ≡ otherParts line =
     ap behind (take-rest line (length first)) ∙ ap (λ xs. behind (drop (length xs) line)) e ∙ sym (parts-behind line) in
     rw (rest, f, ← called-one first (otherParts line) l, e, short)
 
-pub too-long : (line : List ℕ) → 512 < length line → None ≡ reading line
-too-long line h = let long : leb (length line) 512 ≡ false = lt-leb _ _ h in rw long
+pub too-long : (line : List ℕ) → leb (length line) 512 ≡ false → None ≡ reading line
+too-long line long = rw long

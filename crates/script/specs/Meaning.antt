@@ -8,7 +8,6 @@ use Rattle.script.specs.Text.{firstPart, otherParts}
 use Rattle.script.specs.Grammar.{Said, anew, connected, lost, lostForGood, came, status, announced, trainData, ticks, powerOff}
 use Rattle.script.specs.declared.event.Event.{Event}
 use Rattle.script.specs.declared.event.Event.the-variants as event
-use Rattle.script.specs.declared.intake.Intake.{Intake}
 use Rattle.script.specs.declared.numbers.Numbers.{Numbers}
 use Rattle.script.specs.declared.parts.Parts.{Parts}
 
@@ -24,10 +23,6 @@ toCome p = behind (now (p .rest))
 -- The numbers, in their order.
 abbrev pub numbersOf : Numbers → List ℕ
 numbersOf n = take (n .count) (n .numbers)
-
--- The octets of a line so far.
-abbrev pub soFar : Intake → List ℕ
-soFar i = take (i .count) (i .octets)
 
 -- What an event says.
 abbrev pub said : Event → Said

@@ -1,7 +1,6 @@
 // The language of the player's scripts: a line is an event.
 
 pub mod event;
-pub mod intake;
 pub mod numbers;
 pub mod parts;
 pub mod print;

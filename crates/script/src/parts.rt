@@ -2,6 +2,7 @@
 ghost use Prim.Native.Nat.{_≤_};
 ghost use mathlib.Core.Path.{_≡_};
 ghost use mathlib.Core.List.{List, [], _∷_};
+ghost use lib.Dec.{eqb};
 ghost use lib.ListN.{length};
 ghost use Rattle.std.specs.Options.{Cases};
 ghost use Rattle.script.specs.Text.{firstPart};
@@ -16,13 +17,20 @@ pub struct Parts<'a> {
     pub rest: &'a [u8],
 }
 
+// Whether a character ends a part.
+fn is_blank(c: u8) -> bool
+    ensures { λ r. ⌜ r ≡ eqb c 32 ⌝ }
+{
+    c == BLANK
+}
+
 // How many characters stand before the first blank, or before the end.
 fn part_length(text: &[u8]) -> usize
     ensures value { λ r. ⌜ r ≡ length (firstPart (now (text .entry))) ⌝ }
     ensures within { λ r. ⌜ r ≤ length (now (text .entry)) ⌝ }
 {
     for (i, c) in text.iter().enumerate() {
-        if *c == BLANK {
+        if is_blank(*c) {
             return i;
         }
     }

@@ -1,7 +1,8 @@
 // The reader of a line.
 ghost use mathlib.Core.Path.{_≡_};
 ghost use Rattle.std.specs.Options.{mapped};
-ghost use lib.ListN.{take};
+ghost use lib.Dec.{leb};
+ghost use lib.ListN.{length, take};
 ghost use Rattle.script.specs.Grammar.{call as callOf, came, onePart, oneNumber, noPart, numbers, three, flag, reading, onto, sizedOctets};
 ghost use Rattle.script.specs.Meaning.{said, numbersOf, toCome};
 ghost use Rattle.script.specs.Printed.{ReadsBack};
@@ -14,6 +15,13 @@ use crate::text::read_octets;
 
 // The most characters that a line may have.
 const LONGEST: usize = 512;
+
+// Whether a line has at most 512 characters.
+fn short_enough(line: &[u8]) -> bool
+    ensures { λ r. ⌜ r ≡ leb (length (now (line .entry))) 512 ⌝ }
+{
+    line.len() <= LONGEST
+}
 
 // The one part that is to come.
 fn one_part<'a>(mut parts: Parts<'a>) -> Option<&'a [u8]>
@@ -112,7 +120,7 @@ pub fn read_line(line: &[u8]) -> Option<Event>
     ensures value { λ r. ⌜ mapped said r ≡ reading (now (line .entry)) ⌝ }
     ensures back { λ r. ⌜ ReadsBack ⌝ }
 {
-    if line.len() > LONGEST {
+    if !short_enough(line) {
         return None;
     }
     let first = first_part(line);

@@ -1,11 +1,19 @@
 ghost use mathlib.Core.Path.{_≡_};
 ghost use mathlib.Core.List.{[], _∷_, _++_};
+ghost use lib.Dec.{ltb};
 ghost use lib.ListN.{take};
 ghost use Rattle.script.specs.Meaning.{numbersOf};
 use super::Numbers;
 
 // How many numbers are kept.
 const KEPT: usize = 9;
+
+// Whether one more is kept behind so many.
+fn has_room(count: usize) -> bool
+    ensures { λ r. ⌜ r ≡ ltb count 9 ⌝ }
+{
+    count < KEPT
+}
 
 impl Numbers {
     // No numbers.
@@ -22,7 +30,7 @@ impl Numbers {
     pub fn add(&mut self, number: u16)
         ensures { λ _. ⌜ numbersOf (now (self .exit)) ≡ take 9 (numbersOf (now (self .entry)) ++ (number ∷ [])) ⌝ }
     {
-        if self.count < KEPT {
+        if has_room(self.count) {
             self.numbers[self.count] = number;
             self.count += 1;
         }

@@ -1,24 +1,23 @@
-use mathlib.Core.Path.{_≡_}
+use mathlib.Core.Path.{_≡_, sym}
 use mathlib.Core.Bool.{true, false}
 use native.Mathlib.Omega.{arith}
-use borrow.Author.Tests.{eq-eqb, ne-eqb}
 use lib.Dec.{eqb}
 use lib.ListN.{getD}
 use Rattle.script.proofs.Reading.{part-here, part-on, part-end}
 use Rattle.script.proofs.parts.part_length.Needs as need
 
-pub returns-then-c-eq-BLANK : need.returns-then-c-eq-BLANK
-returns-then-c-eq-BLANK c =
+pub returns-then-is-blank : need.returns-then-is-blank
+returns-then-is-blank c =
     let xs = c .args .text .now in
     let i = c .loop-i .i in
-    let e = part-here xs i (c .loop-i-test .taken) (eq-eqb _ _ (c .if-c-eq-BLANK .taken)) in
+    let e = part-here xs i (c .loop-i-test .taken) (sym (c .if-is-blank .ensures tt)) in
     record { value = omega (arith, e, c .loop-i .inv); within = omega arith }
 
 pub loop-i-again : need.loop-i-again
 loop-i-again c =
     let xs = c .args .text .now in
     let i = c .loop-i .i in
-    let e = part-on xs i (c .loop-i-test .taken) (ne-eqb _ _ (c .if-c-eq-BLANK .left)) in
+    let e = part-on xs i (c .loop-i-test .taken) (sym (c .if-is-blank .ensures tt)) in
     omega (arith, e, c .loop-i .inv)
 
 pub returns : need.returns

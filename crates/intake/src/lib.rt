@@ -1,0 +1,3 @@
+// Input, octet by octet: its lines become events that wait.
+
+pub mod intake;
