@@ -7,6 +7,7 @@ pub mod ops;
 
 // The octets of a line so far: the first 513, one more than a readable line has, so that a line
 // of any length is held in bounded memory.
+#[derive(Drop)]
 pub struct Intake {
     octets: [u8; 513],
     count: usize,
