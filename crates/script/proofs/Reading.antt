@@ -51,15 +51,13 @@ parts-behind (c ∷ cs) =
     [ true ↦ refl | false ↦ parts-behind cs ]
 
 -- behind the blank stands the next part, and behind that the others
-pub next-part : (xs : List ℕ) (n : ℕ) → 1 ≤ length xs → n ≡ length (firstPart (take (length xs - 1) (drop 1 xs)))
-    → behind xs ≡ take (n - 0) (take (length xs - 1) (drop 1 xs)) ∷ behind (take (length (take (length xs - 1) (drop 1 xs)) - n) (drop n (take (length xs - 1) (drop 1 xs))))
-next-part [] n h e = absurd (omega arith)
-next-part (c ∷ cs) n h e =
-    let rest : take (length (c ∷ cs) - 1) (drop 1 (c ∷ cs)) ≡ cs = take-rest (c ∷ cs) 1 in
-    let len : n ≡ length (firstPart cs) = e ∙ ap (λ ys. length (firstPart ys)) rest in
-    let front : take n cs ≡ firstPart cs = ap (λ k. take k cs) len ∙ part-front cs in
-    let others : behind (drop n cs) ≡ otherParts cs = ap (λ k. behind (drop k cs)) len ∙ sym (parts-behind cs) in
-    rw (rest, sub-zero n, take-rest cs n, front, others)
+pub next-part : (xs ys part rest : List ℕ) → 1 ≤ length xs → ys ≡ take (length xs - 1) (drop 1 xs)
+    → part ≡ firstPart ys → rest ≡ drop (length (firstPart ys)) ys → behind xs ≡ part ∷ behind rest
+next-part [] ys part rest h e p r = absurd (omega arith)
+next-part (c ∷ cs) ys part rest h e p r =
+    let whole : ys ≡ cs = e ∙ take-rest (c ∷ cs) 1 in
+    let others : behind rest ≡ otherParts cs = ap behind r ∙ ap (λ zs. behind (drop (length (firstPart zs)) zs)) whole ∙ sym (parts-behind cs) in
+    rw (p, whole, others)
 
 -- a digit that does not fit ends the number, and one that does leads on
 pub digits-on : (value : ℕ) (xs : List ℕ) (i : ℕ) → i < length xs

@@ -3,7 +3,7 @@ ghost use Prim.Native.Nat.{_≤_};
 ghost use mathlib.Core.Path.{_≡_};
 ghost use mathlib.Core.List.{List, [], _∷_};
 ghost use lib.Dec.{eqb};
-ghost use lib.ListN.{length};
+ghost use lib.ListN.{drop, length};
 ghost use Rattle.std.specs.Options.{Cases};
 ghost use Rattle.script.specs.Text.{firstPart};
 ghost use Rattle.script.specs.Meaning.{toCome};
@@ -46,6 +46,14 @@ pub fn first_part(text: &[u8]) -> &[u8]
     &text[0..end]
 }
 
+// What stands behind the first part of a text.
+fn behind_part(text: &[u8]) -> &[u8]
+    ensures { λ r. ⌜ now r ≡ drop (length (firstPart (now (text .entry)))) (now (text .entry)) ⌝ }
+{
+    let end = part_length(text);
+    &text[end..]
+}
+
 impl<'a> Parts<'a> {
     // The next part.
     pub fn next(&mut self) -> Option<&'a [u8]>
@@ -54,8 +62,7 @@ impl<'a> Parts<'a> {
         let [_, after @ ..] = self.rest else {
             return None;
         };
-        let end = part_length(after);
-        self.rest = &after[end..];
-        Some(&after[0..end])
+        self.rest = behind_part(after);
+        Some(first_part(after))
     }
 }

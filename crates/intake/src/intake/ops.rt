@@ -34,6 +34,13 @@ fn ends_line(octet: u8) -> bool
     octet == LINE_FEED
 }
 
+// Whether one more event can wait.
+fn has_place(ahead: &Line<Option<Event>>) -> bool
+    ensures { λ r. ⌜ r ≡ ltb 0 (room (now (ahead .entry))) ⌝ }
+{
+    ahead.free() > 0
+}
+
 impl Intake {
     // Nothing yet.
     pub fn new() -> Intake
@@ -57,7 +64,7 @@ impl Intake {
         ensures lines { λ _. ⌜ AsTheyRead ⌝ }
     {
         let mut taken = 0;
-        while taken < octets.len() && ahead.free() > 0 {
+        while taken < octets.len() && has_place(ahead) {
             self.take_octet(octets[taken], ahead);
             taken += 1;
         }

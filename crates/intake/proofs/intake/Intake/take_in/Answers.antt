@@ -2,6 +2,7 @@ use Prim.Native.Nat.{ℕ, _+_, _<_}
 use mathlib.Core.Path.{_≡_, ap, sym, subst, _∙_}
 use mathlib.Core.List.{List, [], _∷_, _++_, append-assoc}
 use native.Mathlib.Omega.{arith}
+use borrow.Author.Tests.{ltb-false}
 use lib.ListN.{length, take, getD, length-append}
 use Rattle.std.specs.declared.option.Option.{Option}
 use Rattle.std.proofs.shelf.Lists.{take-more}
@@ -39,10 +40,10 @@ loop-taken-again c =
       c .take-octet .ensures .lender ∙ c .loop-taken .inv .4,
     )
 
-pub returns-else-free-gt0 : need.returns-else-free-gt0
-returns-else-free-gt0 c = record {
+pub returns-else-has-place : need.returns-else-has-place
+returns-else-has-place c = record {
   within = c .loop-taken .inv .0;
-  stops = λ _. omega arith;
+  stops = λ _. omega (arith, ltb-false _ _ (sym (c .if-has-place .ensures tt)));
   waiting = c .loop-taken .inv .1;
   rest = c .loop-taken .inv .2;
   places = c .loop-taken .inv .3;
