@@ -1,11 +1,8 @@
 // What is checked before settings are made.
-ghost use Prim.Native.Nat.{ℕ, _≤_};
 ghost use mathlib.Core.Path.{_≡_};
-ghost use lib.ListN.{length, take};
 ghost use Rattle.std.specs.Results.{Cases};
-ghost use Rattle.std.specs.declared.option.Option.the-variants.{Some, None};
-ghost use Rattle.vocabulary.specs.Rules.{among as isAmong, inRange, fitsBehind, wrongNumber, countFits, majorsFit};
-ghost use Rattle.vocabulary.specs.Settings.{improper as improperAt};
+ghost use Rattle.vocabulary.specs.Rules.{among as isAmong, inRange, fitsBehind, countFits, majorsFit};
+ghost use Rattle.vocabulary.specs.Settings.{Held, RefusedAt, improper as improperAt, wrongNumbers};
 use crate::fault::Fault;
 use crate::fault::Layer;
 use crate::fault::Refusal;
@@ -24,7 +21,7 @@ pub fn improper(place: usize) -> Fault
 }
 
 // 1 to 8 numbers.
-pub fn count_fits(numbers: &[u16]) -> bool
+fn count_fits(numbers: &[u16]) -> bool
     ensures { λ r. ⌜ r ≡ countFits (now (numbers .entry)) ⌝ }
 {
     let count = numbers.len();
@@ -66,12 +63,14 @@ fn fits_behind(earlier: &[u16], number: u16) -> bool
     in_range(number) && !among(number, earlier)
 }
 
-// The numbers, 8 at most, each in range and different from those before it, or the refusal of the
-// first that is not.
+// The numbers, 1 to 8 of them, each in range and different from those before it, or the refusal of
+// the count or of the first number that is not.
 pub fn proper(numbers: &[u16]) -> Result<[u8; 8], Fault>
-    requires { ⌜ length (now numbers) ≤ 8 ⌝ }
-    ensures { λ r. ⌜ Cases r (λ held. (length held ≡ 8) × (take (length (now (numbers .entry))) held ≡ now (numbers .entry)) × (wrongNumber (now (numbers .entry)) ≡ None)) (λ f. ((place : ℕ) × (f ≡ improperAt place) × (wrongNumber (now (numbers .entry)) ≡ Some place))) ⌝ }
+    ensures { λ r. ⌜ Cases r (Held (now (numbers .entry))) (RefusedAt (wrongNumbers (now (numbers .entry)))) ⌝ }
 {
+    if !count_fits(numbers) {
+        return Err(improper(0));
+    }
     let mut held = [0u8; 8];
     for (i, x) in numbers.iter().enumerate() {
         let number = *x;

@@ -2,7 +2,6 @@ ghost use mathlib.Core.Path.{_≡_};
 ghost use Rattle.vocabulary.specs.Rules.{minorOf};
 ghost use Rattle.vocabulary.specs.Settings.{agreed, answered, settingsOf};
 use super::Settings;
-use super::checks::count_fits;
 use super::checks::improper;
 use super::checks::majors_fit;
 use super::checks::proper;
@@ -20,9 +19,6 @@ impl Settings {
     pub fn new(numbers: &[u16], versions: Versions, trip: u8) -> Result<Settings, Fault>
         ensures { λ r. ⌜ answered r ≡ settingsOf (now (numbers .entry)) versions trip ⌝ }
     {
-        if !count_fits(numbers) {
-            return Err(improper(0));
-        }
         let held = proper(numbers)?;
         if !majors_fit(&versions) {
             return Err(improper(MAJORS));
