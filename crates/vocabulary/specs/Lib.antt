@@ -5,5 +5,6 @@ pub mod Levels
 pub mod Refusals
 pub mod Octets
 pub mod Hex
+pub mod Trips
 pub mod Rules
 pub mod Settings

@@ -8,11 +8,6 @@ use Rattle.std.specs.declared.option.Option.{Option}
 use Rattle.std.specs.declared.option.Option.the-variants.{Some, None}
 use Rattle.vocabulary.specs.declared.versions.Versions.{Versions}
 
--- Packet numbers that a trip notice cannot have: 0 is none, and 1, 5, 13, 14 and 15 are STM-1,
--- STM-5, STM-13, STM-14 and STM-15.
-abbrev pub taken : ℕ → Bool
-taken n = eqb n 0 || (eqb n 1 || (eqb n 5 || (eqb n 13 || (eqb n 14 || eqb n 15))))
-
 -- The number of an STM is 1 to 254.
 abbrev pub inRange : ℕ → Bool
 inRange n = leb 1 n && leb n 254

@@ -15,7 +15,8 @@ use Rattle.vocabulary.specs.declared.settings.Settings.{Settings}
 use Rattle.vocabulary.specs.declared.trip.TripNumber.{TripNumber}
 use Rattle.vocabulary.specs.declared.versions.Versions.{Versions}
 use Rattle.vocabulary.specs.Refusals.{faultAt}
-use Rattle.vocabulary.specs.Rules.{taken, wrongNumber, countFits, majorsFit}
+use Rattle.vocabulary.specs.Rules.{wrongNumber, countFits, majorsFit}
+use Rattle.vocabulary.specs.Trips.{taken}
 
 -- The packet number that a trip notice has.
 abbrev pub tripOf : TripNumber → ℕ

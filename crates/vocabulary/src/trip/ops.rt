@@ -2,7 +2,7 @@ ghost use mathlib.Core.Path.{_≡_};
 ghost use mathlib.Core.Bool.{cond};
 ghost use Rattle.std.specs.Options.{mapped};
 ghost use Rattle.std.specs.declared.option.Option.the-variants.{Some, None};
-ghost use Rattle.vocabulary.specs.Rules.{taken};
+ghost use Rattle.vocabulary.specs.Trips.{taken};
 ghost use Rattle.vocabulary.specs.Settings.{tripOf};
 use super::TripNumber;
 
