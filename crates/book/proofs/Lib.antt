@@ -1,0 +1,4 @@
+pub mod Tests
+pub mod Exactly
+pub mod Lawful
+pub mod LawfulBare
