@@ -1,2 +1,3 @@
 pub mod Lines
 mod Rings
+mod Steps

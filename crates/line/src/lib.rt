@@ -13,11 +13,11 @@ ghost use Rattle.std.specs.declared.option.Option.the-variants.{None, Some};
 ghost use Rattle.std.specs.shelf.Maps.{nth};
 ghost use Rattle.line.specs.Waiting.{InOrder, lent, loan, room, slotOf, startOf, verdict, waits};
 
-// The answer to a put that finds no place free.
+// No place was free.
 #[derive(Clone, Copy, PartialEq, Eq, Debug)]
 pub struct Full;
 
-// The elements lie in the slots from `first` on, round the end, and `used` of them wait.
+// The first element lies in slot `first` and the others behind it, round the end; there are `used` of them.
 // A `first` past the end stands for slot 0, and a `used` above the number of slots for all of them.
 #[derive(Drop)]
 pub struct Line<'a, T> {
@@ -27,7 +27,7 @@ pub struct Line<'a, T> {
 }
 
 impl<'a, T: Copy> Line<'a, T> {
-    // A line on which nobody waits. The slots keep what they hold.
+    // A line on which nothing waits. The slots keep what they hold.
     pub fn new(slots: &'a mut [T]) -> Line<'a, T>
         ensures waiting { λ r. ⌜ waits r ≡ [] ⌝ }
         ensures places { λ r. ⌜ room r ≡ length (now (slots .entry)) ⌝ }
@@ -43,14 +43,14 @@ impl<'a, T: Copy> Line<'a, T> {
         }
     }
 
-    // How many wait.
+    // How many elements wait.
     pub fn len(&self) -> usize
         ensures { λ r. ⌜ r ≡ length (waits (now (self .entry))) ⌝ }
     {
         self.count()
     }
 
-    // Whether nobody waits.
+    // Whether none does.
     pub fn is_empty(&self) -> bool
         ensures { λ r. ⌜ r ≡ eqb (length (waits (now (self .entry)))) 0 ⌝ }
     {
@@ -64,7 +64,7 @@ impl<'a, T: Copy> Line<'a, T> {
         self.slots.len().saturating_sub(self.len())
     }
 
-    // Who waits at a place, counted from 0. Past the end there is nobody.
+    // The element at a place, counted from 0. Past the last there is none.
     pub fn get(&self, place: usize) -> Option<T>
         ensures { λ r. ⌜ r ≡ nth (waits (now (self .entry))) place ⌝ }
     {
@@ -72,7 +72,7 @@ impl<'a, T: Copy> Line<'a, T> {
         self.slots.get(slot).copied()
     }
 
-    // Puts x behind all who wait, in the slot behind theirs. Where no place is free this is refused, and nothing changes.
+    // Puts x behind the last element. Where no place is free this is refused, and nothing changes.
     pub fn put(&mut self, x: T) -> Result<(), Full>
         ensures answer { λ r. ⌜ r ≡ verdict (room (now (self .entry))) ⌝ }
         ensures waiting { λ r. ⌜ waits (now (self .exit)) ≡ cond (isOk r) (waits (now (self .entry)) ++ (x ∷ [])) (waits (now (self .entry))) ⌝ }
@@ -89,7 +89,7 @@ impl<'a, T: Copy> Line<'a, T> {
         Ok(())
     }
 
-    // Takes whoever is first, and the others move up in their order. Where nobody waits nothing changes.
+    // Takes the first element off, and the others move up in their order. Where none waits nothing changes.
     pub fn take(&mut self) -> Option<T>
         ensures answer { λ r. ⌜ r ≡ nth (waits (now (self .entry))) 0 ⌝ }
         ensures waiting { λ _. ⌜ waits (now (self .exit)) ≡ drop 1 (waits (now (self .entry))) ⌝ }
@@ -117,7 +117,7 @@ impl<'a, T: Copy> Line<'a, T> {
         self.free() == 0
     }
 
-    // The first's slot.
+    // The slot of the first element.
     fn start(&self) -> usize
         ensures { λ r. ⌜ r ≡ startOf (now (self .entry)) ⌝ }
     {
@@ -141,7 +141,7 @@ impl<'a, T: Copy> Line<'a, T> {
         }
     }
 
-    // The slot of whoever waits at a place.
+    // The slot of a place at which an element waits.
     fn find(&self, place: usize) -> Option<usize>
         ensures { λ r. ⌜ r ≡ cond (ltb place (length (waits (now (self .entry))))) (Some (slotOf (now (self .entry)) place)) None ⌝ }
     {
@@ -152,7 +152,7 @@ impl<'a, T: Copy> Line<'a, T> {
         }
     }
 
-    // Writes x into the slot behind the last.
+    // Writes x into the slot behind the last element's.
     fn append(&mut self, x: T)
         requires { ⌜ now self .used < length (lent (now self)) ⌝ }
         ensures first { λ _. ⌜ now (self .exit) .first ≡ now (self .entry) .first ⌝ }
@@ -166,7 +166,7 @@ impl<'a, T: Copy> Line<'a, T> {
         self.used += 1;
     }
 
-    // Lets the line start one slot further on.
+    // Starts one slot further on, with one element fewer.
     fn advance(&mut self)
         ensures first { λ _. ⌜ now (self .exit) .first ≡ slotOf (now (self .entry)) 1 ⌝ }
         ensures used { λ _. ⌜ now (self .exit) .used ≡ length (waits (now (self .entry))) - 1 ⌝ }

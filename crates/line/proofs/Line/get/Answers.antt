@@ -1,5 +1,5 @@
 use mathlib.Core.Path.{sym, _∙_}
-use Rattle.line.proofs.Lines.{get-none, get-some}
+use Rattle.line.proofs.Steps.{get-none, get-some}
 use Rattle.line.proofs.Line.get.Needs as need
 
 pub returns-in-Break-slot : need.returns-in-Break-slot

@@ -1,5 +1,5 @@
 use borrow.Author.Needs.{needs}
-use Rattle.line.proofs.Lines.{put-fits, put-order, put-places, put-slots, put-start, put-waiting}
+use Rattle.line.proofs.Steps.{put-fits, put-order, put-places, put-slots, put-start, put-waiting}
 use Rattle.line.proofs.Line.put.Needs as need
 
 pub append-requires : need.append-requires

@@ -1,4 +1,4 @@
-use Rattle.line.proofs.Lines.{take-order, take-places, take-start, take-waiting}
+use Rattle.line.proofs.Steps.{take-order, take-places, take-start, take-waiting}
 use Rattle.line.proofs.Line.take.Needs as need
 
 pub returns : need.returns
