@@ -4,7 +4,7 @@ use Prim.Native.Nat.{ℕ}
 use native.Mathlib.Nat.{ℕ-set}
 use Rattle.vocabulary.specs.declared.versions.Versions.{Versions}
 use Rattle.player.specs.Answers.{versions}
-use Rattle.player.proofs.answer.versions.Needs as need
+use Rattle.player.proofs.session.ops.versions.Needs as need
 
 -- four is four in one way only
 same : (p : _≡_ {A = ℕ} 4 4) → _≡_ {A = Versions} (record { lowest = 3; highest = 4; minors = 0 ∷ (0 ∷ (0 ∷ (0 ∷ []))); full = p }) versions

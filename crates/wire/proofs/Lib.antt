@@ -1,0 +1,4 @@
+pub mod ReaderLaws
+pub mod WalkLaws
+pub mod MessageLaws
+pub mod UnreadLaws

@@ -1,0 +1,4 @@
+pub mod EncodingLaws
+pub mod OctetLaws
+pub mod WriterLaws
+pub mod DraftLaws

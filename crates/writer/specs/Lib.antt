@@ -1,0 +1,3 @@
+pub mod Encoding
+pub mod Drafts
+pub mod Writers

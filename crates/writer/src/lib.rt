@@ -1,0 +1,3 @@
+// The message writer: packets are added one by one to a lent buffer.
+
+pub mod writer;
