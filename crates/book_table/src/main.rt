@@ -108,9 +108,9 @@ fn mode_for(mode: Mode) -> Mode {
     }
 }
 
-// The view that stands for this one: what makes no difference in the held state is as at rest.
-fn stand_in(view: View) -> View {
-    let at_rest = View {
+// The held state and the open order of a view, and all else at rest.
+fn resting(view: View) -> View {
+    View {
         held: view.held,
         want: None,
         open: view.open,
@@ -120,7 +120,12 @@ fn stand_in(view: View) -> View {
         announced: false,
         other_at_hs: false,
         other_at_da: false,
-    };
+    }
+}
+
+// The view that stands for this one: what makes no difference in the held state is as at rest.
+fn stand_in(view: View) -> View {
+    let at_rest = resting(view);
     match view.held {
         State::NoPower | State::Failure => at_rest,
         State::PowerOn | State::DataEntry => View {
