@@ -4,19 +4,17 @@ use mathlib.Core.List.{List, [], _∷_, _++_, append-assoc, append-nil}
 use Prim.Native.Nat.{ℕ, zero, suc, _+_, _-_, _*_, _/_, _%_, _^_, _≤_, _<_}
 use native.Mathlib.Nat.{add-zero, zero-add, add-suc, suc-add, pow-suc}
 use native.Mathlib.Omega.{arith}
-use lib.ListN.{length, getD, take, drop, set, length-append, length-drop, length-take}
+use lib.ListN.{length, getD, take, drop, length-append, length-drop}
 use mathlib.Core.Logic.{⊎-elim}
 use Rattle.std.proofs.str.Laws.{order}
 use Rattle.std.proofs.shelf.Lists.{getD-append-left, getD-append-right}
-use lib.Seq.{getD-drop, getD-append-add, length-take-le, take-at, drop-at, take-take, drop-drop}
+use lib.Seq.{getD-drop, length-take-le, take-take, drop-drop}
 use Rattle.std.specs.shelf.Digits.{number, numberAfter, Under}
-use Rattle.std.specs.shelf.Lists.{All}
-use Rattle.std.proofs.shelf.Digits.{number-push, number-lt, number-more}
-use Rattle.std.proofs.shelf.Elements.{all-append, all-take, all-drop}
+use Rattle.std.proofs.shelf.Digits.{number-push, number-more}
+use Rattle.std.proofs.shelf.Elements.{all-append}
 use Rattle.std.proofs.shelf.Lists.{drop-take}
 use Rattle.std.proofs.shelf.Tests.{cond-true, cond-both, le-leb, leb-true}
-use Rattle.std.specs.declared.option.Option.{Option}
-use Rattle.std.specs.declared.option.Option.the-variants.{Some, None}
+use Rattle.std.specs.declared.option.Option.the-variants.{Some}
 use Rattle.bits.specs.Bits.{field, bitsOf, valueAt, stretch, windowAt}
 
 pub length-field : (n v : ℕ) → length (field n v) ≡ n

@@ -1,17 +1,16 @@
 -- How octets are read as a message.
-use mathlib.Core.Path.{_≡_, refl, sym, ap, _∙_}
+use mathlib.Core.Path.{_≡_, sym, ap, _∙_}
 use mathlib.Core.List.{List}
-use Prim.Native.Nat.{ℕ, min, _*_, _≤_, _<_}
+use Prim.Native.Nat.{ℕ, min, _*_, _≤_}
 use native.Mathlib.Omega.{arith}
 use lib.ListN.{length, take, getD}
 use Rattle.std.proofs.shelf.Lists.{take-all}
 use Rattle.std.proofs.shelf.Tests.{cond-both, ltb-false, eqb-true}
 use Rattle.std.specs.declared.option.Option.{Option}
 use Rattle.std.specs.declared.option.Option.the-variants.{Some, None}
-use Rattle.std.specs.declared.result.Result.{Result}
 use Rattle.std.specs.declared.result.Result.the-variants.{Ok, Err}
 use Rattle.vocabulary.specs.declared.fault.Fault.{Fault}
-use Rattle.wire.specs.Messages.{Walk, Reading, walked, bodyBits, sizeFault, unless, readMessage}
+use Rattle.wire.specs.Messages.{Reading, walked, bodyBits, sizeFault, unless, readMessage}
 
 -- the length of a message is right
 pub record Sized (s : List ℕ) : Type 0 where

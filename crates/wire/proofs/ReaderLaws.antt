@@ -1,21 +1,20 @@
 -- What the reader makes of a packet's bits.
-use mathlib.Core.Path.{_≡_, refl, sym, ap, subst, _∙_}
-use mathlib.Core.Bool.{Bool, true, false, cond}
+use mathlib.Core.Path.{_≡_, refl, sym, ap, _∙_}
+use mathlib.Core.Bool.{Bool, true, false}
 use mathlib.Core.List.{List, [], _∷_, _++_}
 use Prim.Native.Nat.{ℕ, zero, suc, min, _+_, _-_, _*_, _≤_, _<_}
 use mathlib.Core.Logic.{⊎-elim}
 use native.Mathlib.Omega.{arith}
 use lib.ListN.{length, take, drop, length-drop, length-take}
-use lib.Seq.{drop-drop, take-add}
+use lib.Seq.{take-add}
 use Rattle.std.proofs.shelf.Tests.{cond-true, cond-false, lt-ltb, le-ltb, cases-lt}
 use Rattle.std.proofs.shelf.Lists.{drop-all, take-all}
 use Rattle.std.specs.declared.option.Option.{Option}
-use Rattle.std.specs.declared.result.Result.{Result}
 use Rattle.std.specs.declared.result.Result.the-variants.{Ok, Err}
 use Rattle.std.specs.shelf.Digits.{number}
 use Rattle.vocabulary.specs.Numbers.{caseOf}
 use Rattle.vocabulary.specs.declared.fault.Fault.{Fault}
-use Rattle.bits.specs.Bits.{field, bitsOf, valueAt}
+use Rattle.bits.specs.Bits.{field, bitsOf}
 use Rattle.bits.proofs.BitLaws.{length-bitsOf}
 use Rattle.wire.specs.Kinds.{kindNumber, kinds}
 use Rattle.wire.specs.Packets.{content, kindIn, mayHave, contentIn, numberIn, lengthIn, readPacket, told, cut, misfit}

@@ -1,22 +1,20 @@
 -- What a writer's calls leave, octet by octet.
-use mathlib.Core.Path.{_≡_, refl, sym, ap, subst, _∙_}
-use mathlib.Core.Bool.{Bool, true, false, cond, _&&_}
-use mathlib.Core.List.{List, [], _∷_, _++_, append-nil, append-assoc}
-use Prim.Native.Nat.{ℕ, zero, suc, _+_, _-_, _*_, _/_, _^_, _≤_, _<_, min}
+use mathlib.Core.Path.{_≡_, refl, sym, ap, _∙_}
+use mathlib.Core.Bool.{true, false}
+use mathlib.Core.List.{List, [], _∷_, _++_, append-assoc}
+use Prim.Native.Nat.{ℕ, suc, _+_, _-_, _*_, _/_, _^_, _≤_, _<_, min}
 use native.Mathlib.Omega.{arith}
-use lib.Dec.{leb}
-use lib.ListN.{length, getD, take, drop, set, replicate, length-append, length-drop}
+use lib.ListN.{length, take, drop, set, replicate, length-drop}
 use lib.Seq.{drop-drop, length-take-le}
-use Rattle.std.specs.declared.result.Result.the-variants.{Ok, Err}
+use Rattle.std.specs.declared.result.Result.the-variants.{Ok}
 use Rattle.std.proofs.shelf.Lists.{take-append-drop}
 use Rattle.std.proofs.shelf.Tests.{cond-true, le-leb, and-from}
 use Rattle.vocabulary.specs.Settings.{tripOf}
 use Rattle.vocabulary.specs.Trips.{taken}
 use Rattle.bits.specs.Bits.{field, bitsOf}
-use Rattle.bits.proofs.BitLaws.{length-bitsOf, length-field}
 use Rattle.wire.specs.Packets.{Content}
 use Rattle.writer.specs.Encoding.{encode, writable}
-use Rattle.writer.specs.Drafts.{Draft, octetsIn, whole, padded, placed, extended, room, hasRoom, addAnswer, added, messageOf, finished}
+use Rattle.writer.specs.Drafts.{Draft, octetsIn, whole, padded, placed, extended, room, hasRoom, addAnswer, added, messageOf}
 use Rattle.writer.specs.Writers.{written, draft, Adds, Pads}
 use Rattle.writer.specs.declared.writer.Writer.{Writer}
 use Rattle.writer.proofs.OctetLaws.{octets-all, octets-back, octets-filled}

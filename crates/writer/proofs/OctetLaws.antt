@@ -5,16 +5,15 @@ use Prim.Native.Nat.{ℕ, zero, suc, _+_, _-_, _*_, _/_, _%_, _^_, _≤_, _<_}
 use native.Mathlib.Nat.{pow-suc, add-zero, add-suc, mul-assoc, mul-one}
 use native.Mathlib.Numerals.{add-one}
 use native.Mathlib.Omega.{arith}
-use lib.ListN.{length, getD, take, drop, replicate, length-append}
+use lib.ListN.{length, replicate, length-append}
 use Rattle.std.specs.shelf.Lists.{All}
-use Rattle.std.specs.shelf.Digits.{number}
 use Rattle.std.proofs.shelf.Bits.{shl-below}
 use Rattle.std.proofs.shelf.Elements.{all-append}
 use Rattle.std.proofs.shelf.Lists.{replicate-more, replicate-append-replicate}
 use Rattle.std.proofs.shelf.Tests.{and-parts, and-from, ltb-true, lt-ltb}
 use mathlib.Core.Bool.{true}
 use Rattle.bits.specs.Bits.{field, bitsOf}
-use Rattle.bits.proofs.BitLaws.{number-field, length-bitsOf, bitsOf-append}
+use Rattle.bits.proofs.BitLaws.{number-field, bitsOf-append}
 use Rattle.writer.specs.Drafts.{areOctets, octetsIn}
 
 abbrev pub Octets : List ℕ → Type 0

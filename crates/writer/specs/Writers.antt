@@ -1,7 +1,7 @@
 -- What a writer holds.
 use mathlib.Core.Path.{_≡_}
 use mathlib.Core.List.{List, _++_}
-use Prim.Native.Nat.{ℕ, _+_, _*_, _≤_, _<_, min}
+use Prim.Native.Nat.{ℕ, _+_, _*_, _≤_, min}
 use lib.ListN.{take, drop, length}
 use denote.Ref.{name}
 use Rattle.vocabulary.specs.Settings.{tripOf}

@@ -44,6 +44,13 @@ fn check_length(octets: &[u8]) -> Result<(), Fault>
     Ok(())
 }
 
+// The octet at a place, or 0 behind the last.
+fn octet_at(octets: &[u8], i: usize) -> u8
+    ensures { λ r. ⌜ r ≡ getD (now (octets .entry)) i 0 ⌝ }
+{
+    if i < octets.len() { octets[i] } else { 0 }
+}
+
 impl<'a> Message<'a> {
     // Octets as a message, in which a trip notice has the number `trip`. All packets are checked.
     pub fn read(octets: &'a [u8], trip: TripNumber) -> Result<Message<'a>, Fault>
@@ -60,11 +67,7 @@ impl<'a> Message<'a> {
     pub fn sender(&self) -> u8
         ensures { λ r. ⌜ r ≡ reading (now (self .entry)) .sender ⌝ }
     {
-        if self.octets.len() > SENDER {
-            self.octets[SENDER]
-        } else {
-            0
-        }
+        octet_at(self.octets, SENDER)
     }
 
     // A walk over its packets, from the first on.

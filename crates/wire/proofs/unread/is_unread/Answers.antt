@@ -1,4 +1,4 @@
-use mathlib.Core.Path.{_≡_, refl, sym, ap, _∙_}
+use mathlib.Core.Path.{_∙_}
 use native.Mathlib.Omega.{arith}
 use Rattle.bits.proofs.BitLaws.{window-shows}
 use Rattle.wire.specs.Packets.{handedOn}

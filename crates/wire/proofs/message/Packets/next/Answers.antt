@@ -1,4 +1,4 @@
-use mathlib.Core.Path.{refl, sym, ap, _∙_}
+use mathlib.Core.Path.{sym, ap, _∙_}
 use lib.ListN.{drop}
 use Rattle.std.proofs.shelf.Tests.{ltb-true, ltb-false}
 use Rattle.wire.specs.Walkers.{first}

@@ -1,4 +1,4 @@
-use mathlib.Core.Path.{_≡_, refl, sym, ap, _∙_}
+use mathlib.Core.Path.{sym, ap, _∙_}
 use Rattle.std.proofs.shelf.Tests.{ltb-true, ltb-false}
 use Rattle.wire.proofs.WalkLaws.{walked-end, past-walk}
 use Rattle.wire.proofs.reader.BitReader.check.Needs as need

@@ -1,8 +1,5 @@
-use mathlib.Core.Path.{_≡_, sym, ap, _∙_}
+use mathlib.Core.Path.{ap, _∙_}
 use Prim.Native.Nat.{_*_, min}
-use lib.ListN.{length, take, drop}
-use native.Mathlib.Omega.{arith}
-use Rattle.bits.specs.Bits.{bitsOf}
 use Rattle.wire.proofs.ReaderLaws.{body-between}
 use Rattle.wire.proofs.reader.BitReader.over.Needs as need
 

@@ -1,9 +1,9 @@
-use mathlib.Core.Path.{_≡_, sym, ap, _∙_}
+use mathlib.Core.Path.{_≡_, ap, _∙_}
 use native.Mathlib.Nat.{pow-suc}
 use native.Mathlib.Numerals.{add-one}
 use native.Mathlib.Omega.{arith}
 use lib.Pow.{pow-mono}
-use Prim.Native.Nat.{ℕ, _^_, _+_, _*_, _≤_, _<_, suc}
+use Prim.Native.Nat.{ℕ, _^_, _+_, _*_, _≤_, _<_}
 use Rattle.bits.specs.Bits.{bitsOf}
 use Rattle.bits.proofs.BitLaws.{value-more, length-bitsOf, bit-small}
 use Rattle.wire.proofs.reader.fields.number_at.Needs as need

@@ -1,7 +1,7 @@
-use mathlib.Core.Path.{_≡_, refl, sym, ap, _∙_}
+use mathlib.Core.Path.{sym, ap, _∙_}
 use mathlib.Core.List.{_++_}
 use native.Mathlib.Omega.{arith}
-use lib.ListN.{length, take, drop, set}
+use lib.ListN.{take, set}
 use Rattle.std.proofs.shelf.Lists.{drop-set-lt}
 use Rattle.std.proofs.shelf.Tests.{cond-false}
 use Rattle.std.specs.declared.result.Result.the-variants.{Ok}

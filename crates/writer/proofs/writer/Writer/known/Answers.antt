@@ -1,7 +1,6 @@
-use mathlib.Core.Path.{_≡_, refl, sym, ap, _∙_}
+use mathlib.Core.Path.{refl, ap, _∙_}
 use mathlib.Core.List.{_++_}
 use native.Mathlib.Omega.{arith}
-use Prim.Native.Nat.{_+_}
 use Rattle.bits.specs.Bits.{field}
 use Rattle.bits.proofs.BitLaws.{length-field}
 use Rattle.wire.specs.Kinds.{kindNumber}

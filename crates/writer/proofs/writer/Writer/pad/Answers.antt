@@ -1,7 +1,7 @@
 use mathlib.Core.Path.{refl, ap, _∙_}
-use Prim.Native.Nat.{_+_, _≤_, _<_, min}
+use Prim.Native.Nat.{_+_, _≤_}
 use native.Mathlib.Omega.{arith}
-use lib.ListN.{length, length-set}
+use lib.ListN.{length-set}
 use Rattle.std.proofs.shelf.Lists.{drop-set-lt}
 use Rattle.writer.specs.Drafts.{areOctets}
 use Rattle.writer.proofs.WriterLaws.{before-set}

@@ -1,0 +1,4 @@
+pub mod BackLaws
+pub mod AgainLaws
+pub mod SendLaws
+pub mod TripLaws
