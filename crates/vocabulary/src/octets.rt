@@ -6,7 +6,7 @@ ghost use lib.ListN.{length};
 pub mod ops;
 pub mod text;
 
-// 1 to N octets. What it means is the list of them; the places behind them hold 0.
+// 1 to N octets. What it means is the list of them, whatever the places behind them hold.
 #[derive(Clone, Copy)]
 pub struct Octets<const N: usize> {
     octets: [u8; N],
