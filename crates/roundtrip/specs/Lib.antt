@@ -1,3 +1,2 @@
 pub mod Sending
 pub mod RoundTrips
-pub mod Cases

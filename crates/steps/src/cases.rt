@@ -2,15 +2,13 @@
 ghost use mathlib.Core.Path.{_≡_};
 ghost use lib.ListN.{length};
 ghost use Rattle.std.specs.shelf.Lists.{All};
-ghost use Rattle.roundtrip.specs.Cases.{cases, Holds};
+ghost use Rattle.steps.specs.Cases.{cases, Holds};
 
-const CASES: usize = 4;
-
-// How many rows the list has.
-fn rows() -> usize
+// How many there are.
+fn count() -> usize
     ensures { λ r. ⌜ r ≡ length cases ⌝ }
 {
-    CASES
+    8
 }
 
 // How many worked cases there are. Every one of them holds.
@@ -18,5 +16,5 @@ pub fn worked_cases() -> usize
     ensures count { λ r. ⌜ r ≡ length cases ⌝ }
     ensures hold { λ _. ⌜ All Holds cases ⌝ }
 {
-    rows()
+    count()
 }
