@@ -1,4 +1,4 @@
 // Writing a log: an open log is a carrier, and closing moves it into a closed one.
 
 pub mod open;
-pub mod parts;
+mod parts;
