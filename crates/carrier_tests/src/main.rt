@@ -7,6 +7,7 @@ use carrier::bus::BusCarrier;
 use counting::Counting;
 use counting::CountingCarrier;
 use log_reading::read_log;
+use log_rewriting::rewrite;
 use log_writing::open::OpenLog;
 use log_writing::open::ops::OpenLogCarrier;
 use std::alloc::AllocError;
@@ -145,6 +146,16 @@ fn try_damage(rt: &LibcRuntime, file: [u8; FILE]) -> Result<(), Stop> {
     Ok(())
 }
 
+// The log of the longer file, written again into so many octets.
+fn try_again(rt: &LibcRuntime, octets: usize) -> Result<(), Stop> {
+    println!(rt, "written again into {octets} octets")?;
+    let mut buffer = vec![in rt.alloc(); 0xFFu8; octets]?;
+    match rewrite(&LONGER_FILE, buffer.as_mut_slice()) {
+        Ok(log) => show_log(rt, log.as_slice()),
+        Err(fault) => show_fault(rt, fault),
+    }
+}
+
 fn try_bus(rt: &LibcRuntime) -> Result<(), Stop> {
     println!(rt, "bus memory of two places")?;
     let Some(blank) = Frame::new(&[0]) else {
@@ -162,6 +173,9 @@ fn try_all(rt: &LibcRuntime) -> Result<(), Stop> {
     try_bus(rt)?;
     for octets in [0, 7, 8, 24, 25, 41, 42, 65_287, 65_288, 65_305] {
         try_octets(rt, octets)?;
+    }
+    for octets in [24, 25, 42] {
+        try_again(rt, octets)?;
     }
     try_damage(rt, LONGER_FILE)
 }
