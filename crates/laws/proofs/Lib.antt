@@ -1,0 +1,11 @@
+pub mod Lists
+pub mod Waiting
+pub mod Rows
+pub mod Places
+pub mod Frames
+pub mod Settles
+pub mod Puts
+pub mod Whys
+pub mod Moments
+pub mod Histories
+pub mod Runs

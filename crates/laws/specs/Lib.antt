@@ -1,0 +1,4 @@
+pub mod Events
+pub mod OpenOrders
+pub mod Reasons
+pub mod Lawful
