@@ -1,6 +1,8 @@
 // Books of conditions: which order an STM is to get, and within how many ticks it has to answer.
 // The control is written over any book that keeps the laws; the standard book orders exactly when a
 // condition of SUBSET-035 calls for it.
+#![tactic(auto)]
+
 ghost use Rattle.std.specs.Prelude.{◌≡◌, ℕ, Option};
 ghost use Rattle.vocabulary.specs.declared.order.Order.{Order};
 ghost use Rattle.book.specs.declared.view.View.{View};

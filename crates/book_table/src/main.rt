@@ -1,5 +1,7 @@
 // Prints what the books answer, for people: a line for each group of views that makes a difference,
 // and a count over every view there is.
+#![tactic(auto)]
+
 use book::Book;
 use book::bare::Bare;
 use book::standard::Standard;

@@ -1,4 +1,6 @@
 // Whole runs of a control, in any environment and over any carrier.
+#![tactic(auto)]
+
 ghost use Rattle.std.specs.Prelude.{◌≡◌, ◌<◌, ◌≤◌, true};
 ghost use Rattle.control.specs.Controls.{Made};
 ghost use Rattle.campaign.specs.Meanings.{asked, meant};

@@ -1,4 +1,6 @@
 // Tries the carriers and the log at their limits, and prints what they answer.
+#![tactic(auto)]
+
 mod counting;
 
 use carrier::Carrier;

@@ -1,4 +1,6 @@
 // The control: a book, the table of rows, the surroundings, and the nine calls.
+#![tactic(auto)]
+
 use steps::surroundings::Surroundings;
 use table::table::Table;
 

@@ -1,4 +1,6 @@
 // The laws of whole runs of a control.
+#![tactic(auto)]
+
 ghost use Rattle.std.specs.Prelude.{◌≡◌, length};
 ghost use Rattle.vocabulary.specs.Settings.{agreed};
 ghost use Rattle.steps.specs.Setups.{setup};

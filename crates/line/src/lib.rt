@@ -1,4 +1,6 @@
 // A waiting line: first in, first out, for every kind of element, in slots that are lent.
+#![tactic(auto)]
+
 ghost use Rattle.std.specs.Prelude.{◌≡◌, ◌+◌, ◌-◌, ◌<◌, min, List, [], ◌∷◌, ◌++◌, length, drop, is_some, is_ok, if◌then◌else◌, Some, None, ◌==◌, nat_lt, slice_set};
 ghost use Rattle.std.specs.Option.{option_to_list};
 ghost use Rattle.std.specs.List.{slice_get};

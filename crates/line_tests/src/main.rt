@@ -1,4 +1,6 @@
 // Runs the waiting line at numbers and at frames, and proves what a client of it can say.
+#![tactic(auto)]
+
 ghost use Rattle.std.specs.Prelude.{◌≡◌, ◌-◌, [], ◌∷◌, ◌++◌, length, is_ok, if◌then◌else◌, Some, None, nat_eq, slice_set};
 ghost use Rattle.line.specs.Waiting.{room};
 ghost use Rattle.line_tests.specs.Frames.{frames_on, octets_of};

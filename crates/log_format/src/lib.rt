@@ -1,4 +1,6 @@
 // A log of frames, as octets: what is common to writing and reading it.
+#![tactic(auto)]
+
 ghost use Rattle.std.specs.Prelude.{◌≡◌, ℕ, ◌<◌, ◌≤◌, length};
 ghost use Rattle.std.specs.Option.{option_map};
 ghost use Rattle.vocabulary.specs.Octets.{in_size, octets_of};

@@ -1,4 +1,6 @@
 // Reading a log and writing it again.
+#![tactic(auto)]
+
 ghost use Rattle.std.specs.Prelude.{◌≡◌, ◌+◌, ◌*◌, ◌≤◌, ◌++◌, length, drop, IfOk, nat_lt};
 ghost use Rattle.log_format.specs.Closed.{to_play};
 ghost use Rattle.log_format.specs.Reading.{read_log};

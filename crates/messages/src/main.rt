@@ -1,5 +1,7 @@
 // Reads messages of the published STM test sequences, tells what they say, writes them again, and tells whether the same
 // octets came back.
+#![tactic(auto)]
+
 use crate::sequences::STREAM;
 use roundtrip::rewrite::rewrite_message;
 use std::io;

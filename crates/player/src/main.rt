@@ -1,4 +1,6 @@
 // The player: it reads a script on standard input and answers each line.
+#![tactic(auto)]
+
 mod answer;
 mod session;
 

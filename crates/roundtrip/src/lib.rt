@@ -1,4 +1,5 @@
 // Whole messages, written and read back.
+#![tactic(auto)]
 
 pub mod rewrite;
 pub mod write;

@@ -1,4 +1,5 @@
 // One unit's row: what the control keeps of it, and what each step makes of it.
+#![tactic(auto)]
 
 pub mod closed;
 pub mod put;

@@ -1,4 +1,5 @@
 // The language of the player's scripts: a line is an event.
+#![tactic(auto)]
 
 pub mod event;
 pub mod numbers;

@@ -1,4 +1,6 @@
 // The frames that a control puts into its carrier.
+#![tactic(auto)]
+
 ghost use Rattle.std.specs.Prelude.{◌≡◌, ℕ, ◌≤◌, length, take};
 ghost use Rattle.vocabulary.specs.Octets.{octets_of};
 ghost use Rattle.vocabulary.specs.Settings.{agreed, trip_of};

@@ -1,4 +1,6 @@
 // Shows log files: the frames of each, one to a line, or where it fails to be a log.
+#![tactic(auto)]
+
 use log_format::closed::ClosedLog;
 use log_reading::read_log;
 use std::alloc::AllocError;

@@ -1,4 +1,6 @@
 // Transcripts: what a control answers to a script of calls, over any book and any carrier.
+#![tactic(auto)]
+
 ghost use Rattle.std.specs.Prelude.{map, length};
 ghost use Rattle.vocabulary.specs.Settings.{agreed};
 ghost use Rattle.line.specs.Waiting.{waits};

@@ -1,4 +1,6 @@
 // Plays a script of calls to a new control over the standard book, and prints the transcript.
+#![tactic(auto)]
+
 use book::standard::Standard;
 use campaign::call::Call;
 use carrier::bus::Bus;

@@ -1,5 +1,6 @@
 // The vocabulary of the STM control function: its states, orders, causes, links, levels, modes,
 // refusals and settings as types. Each number has one definition in specs/.
+#![tactic(auto)]
 
 pub mod cause;
 pub mod fault;

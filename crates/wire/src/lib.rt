@@ -1,4 +1,5 @@
 // The wire: packets and messages, and how they are read.
+#![tactic(auto)]
 
 pub mod kind;
 pub mod message;

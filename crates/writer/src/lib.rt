@@ -1,3 +1,4 @@
 // The message writer: packets are added one by one to a lent buffer.
+#![tactic(auto)]
 
 pub mod writer;

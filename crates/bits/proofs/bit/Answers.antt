@@ -8,7 +8,7 @@ pub returns-then-octet-octets : goal.returns-then-octet-octets
 returns-then-octet-octets c =
     let s = c.args.octets.now in
     let within : c.args.i < 8 * length s = omega arith in
-    (λ k. get_or s (c.octet-of-octet.ensures k) 0 / 2 ^ (c.behind.ensures k) % 2) ∙ bit_at s c.args.i within
+    (λ k. get_or s (c.octet_of-octet.ensures k) 0 / 2 ^ (c.behind.ensures k) % 2) ∙ bit_at s c.args.i within
 
 pub returns-else-octet-octets : goal.returns-else-octet-octets
 returns-else-octet-octets c =

@@ -7,4 +7,4 @@ pub returns-then-reach-octets : goal.returns-then-reach-octets
 returns-then-reach-octets c =
     let s = c.args.octets.now in
     let within : c.args.i + c.args.n ≤ 8 * length s = omega arith in
-    ap Some (take_rest s c.octet-of-first.result ∙ ap (λ k. drop k s) c.octet-of-first.ensures) ∙ sym (cond-true _ _ _ (le-leb _ _ within))
+    ap Some (take_rest s c.octet_of-first.result ∙ ap (λ k. drop k s) c.octet_of-first.ensures) ∙ sym (cond-true _ _ _ (le-leb _ _ within))

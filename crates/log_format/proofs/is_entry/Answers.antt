@@ -16,4 +16,4 @@ by_fill xs n b is size low high h =
 pub returns-then-len-le-FILLED : goal.returns-then-len-le-FILLED
 returns-then-len-le-FILLED c =
     let t = c.if-len-le-FILLED.true in
-    by_fill c.args.octets.now c.from-len.result c.is-blank.result c.from-len.ensures c.if-octets-ne-ENTRY.false t.0 t.1 c.is-blank.ensures
+    by_fill c.args.octets.now c.from-len.result c.is_blank.result c.from-len.ensures c.if-octets-ne-ENTRY.false t.0 t.1 c.is_blank.ensures

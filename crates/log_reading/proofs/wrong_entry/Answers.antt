@@ -18,28 +18,28 @@ loop-init c =
     let n : c.args.count - 0 ≡ c.args.count = omega arith in
     (omega arith, ap (λ k. wrong_from (entries_in k (drop c.args.start c.args.file.now)) c.args.start) n)
 
-pub overflow-add-at : goal.overflow-add-at
-overflow-add-at c = omega (arith, c.loop.invariant.0, c.requires)
+pub overflow_add-at : goal.overflow_add-at
+overflow_add-at c = omega (arith, c.loop.invariant.0, c.requires)
 
-pub slice-bounds-is-entry-end : goal.slice-bounds-is-entry-end
-slice-bounds-is-entry-end c = omega (arith, c.loop.invariant.0, c.requires)
+pub slice_bounds-is_entry-end : goal.slice_bounds-is_entry-end
+slice_bounds-is_entry-end c = omega (arith, c.loop.invariant.0, c.requires)
 
-pub returns-then-not-is-entry : goal.returns-then-not-is-entry
-returns-then-not-is-entry c =
+pub returns-then-not-is_entry : goal.returns-then-not-is_entry
+returns-then-not-is_entry c =
     let file = c.args.file.now in
     let at = c.loop.at in
     let s = step c.args.count c.loop.counter at file c.loop-test.true in
-    sym (sym c.loop.invariant.1 ∙ s ∙ ap (λ b. cond b (wrong_from (entries_in (c.args.count - (c.loop.counter + 1)) (drop (at + 17) file)) (at + 17)) (Some at)) (sym c.if-not-is-entry.ensures))
+    sym (sym c.loop.invariant.1 ∙ s ∙ ap (λ b. cond b (wrong_from (entries_in (c.args.count - (c.loop.counter + 1)) (drop (at + 17) file)) (at + 17)) (Some at)) (sym c.if-not-is_entry.ensures))
 
-pub overflow-add-at-in-loop : goal.overflow-add-at-in-loop
-overflow-add-at-in-loop c = omega (arith, c.loop.invariant.0, c.requires)
+pub overflow_add-at-in-loop : goal.overflow_add-at-in-loop
+overflow_add-at-in-loop c = omega (arith, c.loop.invariant.0, c.requires)
 
 pub loop-preserved : goal.loop-preserved
 loop-preserved c =
     let file = c.args.file.now in
     let at = c.loop.at in
     let s = step c.args.count c.loop.counter at file c.loop-test.true in
-    (omega (arith, c.loop.invariant.0), sym (s ∙ ap (λ b. cond b (wrong_from (entries_in (c.args.count - (c.loop.counter + 1)) (drop (at + 17) file)) (at + 17)) (Some at)) (sym c.if-not-is-entry.ensures)) ∙ c.loop.invariant.1)
+    (omega (arith, c.loop.invariant.0), sym (s ∙ ap (λ b. cond b (wrong_from (entries_in (c.args.count - (c.loop.counter + 1)) (drop (at + 17) file)) (at + 17)) (Some at)) (sym c.if-not-is_entry.ensures)) ∙ c.loop.invariant.1)
 
 pub returns : goal.returns
 returns c =

@@ -12,11 +12,11 @@ loop-frame-preserved c =
     let p = to_play c.loop-frame.frames in
     let q = to_play c.next.new.self in
     let f = c.in-Some.frame in
-    let xs = c.as-slice.result.now in
+    let xs = c.as_slice.result.now in
     let r = c.put.result in
     let n = c.in-Some.ensures in
     let e = c.put.ensures in
-    let is = c.as-slice.ensures in (
+    let is = c.as_slice.ensures in (
       step_frames o m p q f xs r n.answer n.rest is i.1 e.answer e.frames e.places e.octets ∙ i.0,
       step_places o m p q f xs r n.answer n.rest is i.1 e.answer e.frames e.places e.octets,
       step_size o m p q f xs r n.answer n.rest is i.1 e.answer e.frames e.places e.octets ∙ i.2,

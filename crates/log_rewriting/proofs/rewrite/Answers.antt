@@ -4,34 +4,34 @@ use Rattle.log_writing.specs.Writing.{open_frames, open_octets}
 use Rattle.log_rewriting.proofs.Steps.{answer_again, no_room, places_enough, same_again, written_over}
 use Rattle.log_rewriting.proofs.rewrite.Goals as goal
 
-pub returns-then-has-no-room : goal.returns-then-has-no-room
-returns-then-has-no-room c =
-    let log = c.in-ok-log.log in
-    let e = c.in-ok-log.ensures in
+pub returns-then-has_no_room : goal.returns-then-has_no_room
+returns-then-has_no_room c =
+    let log = c.in_ok-log.log in
+    let e = c.in_ok-log.ensures in
     let os = c.args.octets.now in
-    let h = c.if-has-no-room.ensures ∙ ap (λ x. ltb (length os) (length x)) c.as-slice.ensures in
-    record { answer = ap Err c.full-fault.ensures ∙ no_room c.args.file.now os log e.answer e.log h; again = tt }
+    let h = c.if-has_no_room.ensures ∙ ap (λ x. ltb (length os) (length x)) c.as_slice.ensures in
+    record { answer = ap Err c.full_fault.ensures ∙ no_room c.args.file.now os log e.answer e.log h; again = tt }
 
-pub put-all-requires : goal.put-all-requires
-put-all-requires c =
-    let log = c.in-ok-log.log in
-    let e = c.in-ok-log.ensures in
+pub put_all-requires : goal.put_all-requires
+put_all-requires c =
+    let log = c.in_ok-log.log in
+    let e = c.in_ok-log.ensures in
     let os = c.args.octets.now in
-    let h = c.if-has-no-room.ensures ∙ ap (λ x. ltb (length os) (length x)) c.as-slice.ensures in
+    let h = c.if-has_no_room.ensures ∙ ap (λ x. ltb (length os) (length x)) c.as_slice.ensures in
     let enough = places_enough c.args.file.now os log e.answer e.log h in
     omega (arith, ap length c.play.ensures, c.new-open.ensures.free)
 
 pub returns : goal.returns
 returns c =
     let file = c.args.file.now in
-    let log = c.in-ok-log.log in
-    let e = c.in-ok-log.ensures in
+    let log = c.in_ok-log.log in
+    let e = c.in_ok-log.ensures in
     let os = c.args.octets.now in
-    let h = c.if-has-no-room.ensures ∙ ap (λ x. ltb (length os) (length x)) c.as-slice.ensures in
-    let o = c.put-all.new.into in
+    let h = c.if-has_no_room.ensures ∙ ap (λ x. ltb (length os) (length x)) c.as_slice.ensures in
+    let o = c.put_all.new.into in
     let r = c.close.result in
     let n = c.new-open.ensures in
-    let p = c.put-all.ensures in
+    let p = c.put_all.ensures in
     let d = c.close.ensures in
     let frames : open_frames o ≡ closed_frames log = p.frames ∙ ap (λ x. x ++ to_play c.play.result) n.frames ∙ c.play.ensures in
     let size : length (open_octets o) ≡ length os = p.size ∙ ap length n.octets in

@@ -11,5 +11,5 @@ returns c =
     taken_is c.new.result c.unwrap.result _ c.new.ensures c.unwrap.ensures
     ∙ ap (λ n. take n octets) len
     ∙ c.write-len.ensures.message
-    ∙ ap (λ t. frame_of t c.args.number (content c.packet-of-packet.result)) c.trip.ensures
-    ∙ ap (frame_of _ c.args.number) c.packet-of-packet.ensures.says
+    ∙ ap (λ t. frame_of t c.args.number (content c.packet_of-packet.result)) c.trip.ensures
+    ∙ ap (frame_of _ c.args.number) c.packet_of-packet.ensures.says

@@ -65,7 +65,7 @@ pub returns : goal.returns
 returns g c =
     let i = c.loop-packet.invariant in
     let n = c.args.number in
-    let none = ahead_none (ahead c.loop-packet.packets) c.in-default.ensures.packet in
+    let none = ahead_none (ahead c.loop-packet.packets) c.in_default.ensures.packet in
     record {
       kept = i.0;
       counts = (i.2, i.3);

@@ -17,24 +17,24 @@ use Rattle.control.proofs.Hears.{is_known, counts_known, lost_act, lost_ends}
 use Rattle.control.proofs.Makes.{made_settled, made_refused}
 use Rattle.control.proofs.Control.lost.Goals as goal
 
-pub returns-in-err-check-lost : goal.returns-in-err-check-lost
-returns-in-err-check-lost g c =
-    let p = err_from_is_err_and c.from-residual.result c.from-residual.ensures.1 in
+pub returns-in_err-check_lost : goal.returns-in_err-check_lost
+returns-in_err-check_lost g c =
+    let p = err_from_is_err_and c.from_residual.result c.from_residual.ensures.1 in
     let k = c.args.self.now in
     let n = c.args.number in
-    made_refused g.B.Book.answer g.B.Book.limit g.C.Carrier.waiting g.C.Carrier.free (lost n c.args.is-final) k c.args.carrier.now c.in-err-check-lost.field-0.0 c.from-residual.result
-    (stops (first_of (lost_checks (agreed k.table.settings) (rows_in k.table) n c.args.is-final)) (cond c.args.is-final (lost_finally n) (lost_plainly n) ∷ []) _ c.in-err-check-lost.ensures) (p.1 ∙ ap Err p.2)
+    made_refused g.B.Book.answer g.B.Book.limit g.C.Carrier.waiting g.C.Carrier.free (lost n c.args.is_final) k c.args.carrier.now c.in_err-check_lost.field-0.0 c.from_residual.result
+    (stops (first_of (lost_checks (agreed k.table.settings) (rows_in k.table) n c.args.is_final)) (cond c.args.is_final (lost_finally n) (lost_plainly n) ∷ []) _ c.in_err-check_lost.ensures) (p.1 ∙ ap Err p.2)
 
 pub returns : goal.returns
 returns g c =
     let k = c.args.self.now in
     let n = c.args.number in
-    let final = c.args.is-final in
+    let final = c.args.is_final in
     let a = agreed k.table.settings in
     let rows = rows_in k.table in
     let t = c.cut-closed.ensures in
     let e = c.settle.ensures in
-    let free = c.in-ok-check-lost.ensures in
+    let free = c.in_ok-check_lost.ensures in
     let known = is_known (refused refusal.UnknownStm) (among n a.numbers) _ free in
     made_settled g.B.Book.answer g.B.Book.limit g.C.Carrier.waiting g.C.Carrier.free (lost n final) k c.cut-closed.new.self c.settle.new.self c.args.carrier.now c.settle.new.carrier (cond final (lost_finally n) (lost_plainly n)) c.close.new.counts c.settle.new.counts
     (goes (first_of (lost_checks a rows n final)) (cond final (lost_finally n) (lost_plainly n) ∷ []) free) (lost_ends final n) t.kept e.kept

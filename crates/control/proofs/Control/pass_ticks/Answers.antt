@@ -10,7 +10,7 @@ use Rattle.control.proofs.Control.pass_ticks.Goals as goal
 pub returns : goal.returns
 returns g c =
     let k = c.args.self.now in
-    let e = c.pass-all.ensures in
+    let e = c.pass_all.ensures in
     let ws = replicate c.args.ticks tick_passed in
-    made_granted g.B.Book.answer g.B.Book.limit g.C.Carrier.waiting g.C.Carrier.free (run c.args.ticks) k c.pass-all.new.self c.args.carrier.now c.pass-all.new.carrier ws c.pass-all.new.counts _ refl e.kept
+    made_granted g.B.Book.answer g.B.Book.limit g.C.Carrier.waiting g.C.Carrier.free (run c.args.ticks) k c.pass_all.new.self c.args.carrier.now c.pass_all.new.carrier ws c.pass_all.new.counts _ refl e.kept
     (e.standing ∙ ap (λ (n : Counts). through (setup_of g.B.Book.answer g.B.Book.limit k) ws (told g.C.Carrier.waiting g.C.Carrier.free k c.args.carrier.now n)) c.none-counts.ensures) refl

@@ -12,5 +12,5 @@ returns g c =
     let u = setup_of g.B.Book.answer g.B.Book.limit k in
     let before = told g.C.Carrier.waiting g.C.Carrier.free k c.args.carrier.now no_counts in
     made_granted g.B.Book.answer g.B.Book.limit g.C.Carrier.waiting g.C.Carrier.free power_off k _ c.args.carrier.now c.args.carrier.now (powered_off ∷ []) c.voiding.result _ refl (record { book = refl; settings = c.clear.ensures.settings })
-    (act_is u powered_off before _ _ _ c.fresh-surroundings-self.ensures c.clear.ensures.rows (c.voiding.ensures ∙ ap (λ v. closing 0 0 v no_counts) c.open-orders-voided.ensures.is))
+    (act_is u powered_off before _ _ _ c.fresh_surroundings-self.ensures c.clear.ensures.rows (c.voiding.ensures ∙ ap (λ v. closing 0 0 v no_counts) c.open_orders-voided.ensures.is))
     refl

@@ -3,7 +3,7 @@ use Rattle.line.proofs.Steps.{put_fits, put_order, put_places, put_slots, put_st
 use Rattle.line.proofs.Line.put.Goals as goal
 
 pub append-requires : goal.append-requires
-append-requires g c = put_fits c.args.self.now c.if-is-full.ensures
+append-requires g c = put_fits c.args.self.now c.if-is_full.ensures
 
 pub returns : goal.returns
 returns g c =
@@ -11,7 +11,7 @@ returns g c =
     let m = c.append.new.self in
     let x = c.args.x in
     let e = c.append.ensures in
-    let h = put_fits l c.if-is-full.ensures in
+    let h = put_fits l c.if-is_full.ensures in
     record {
       answer = search rules;
       waiting = put_waiting l m x h e.first e.used e.slots;

@@ -5,8 +5,8 @@ pub returns : goal.returns
 returns g c =
     let l = c.args.self.now in
     let m = c.advance.new.self in
-    let x = c.in-ok-taken.taken in
-    let was = c.in-ok-taken.ensures in
+    let x = c.in_ok-taken.taken in
+    let was = c.in_ok-taken.ensures in
     let e = c.advance.ensures in
     record {
       answer = was;

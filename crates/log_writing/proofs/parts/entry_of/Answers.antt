@@ -34,11 +34,11 @@ loop-i-init c = refl
 
 pub loop-i-preserved : goal.loop-i-preserved
 loop-i-preserved c =
-    let xs = c.as-slice-octets.result.now in
+    let xs = c.as_slice-octets.result.now in
     let i = c.loop-i.i in
-    ap (λ w. set w (i + 1) (get_or xs i 0)) c.loop-i.invariant ∙ step (length xs) i xs c.loop-i-test.true (few c.args.frame.now xs c.as-slice-octets.ensures)
+    ap (λ w. set w (i + 1) (get_or xs i 0)) c.loop-i.invariant ∙ step (length xs) i xs c.loop-i-test.true (few c.args.frame.now xs c.as_slice-octets.ensures)
 
 pub returns : goal.returns
 returns c =
-    let xs = c.as-slice-octets.result.now in
-    c.loop-i.invariant ∙ all c.loop-i.i xs (octets_of c.args.frame.now) (omega arith) c.as-slice-octets.ensures
+    let xs = c.as_slice-octets.result.now in
+    c.loop-i.invariant ∙ all c.loop-i.i xs (octets_of c.args.frame.now) (omega arith) c.as_slice-octets.ensures

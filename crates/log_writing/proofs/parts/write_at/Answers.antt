@@ -12,4 +12,4 @@ put_over at xs ys part e =
     ∙ ap (λ d. take at xs ++ (part ++ d)) (drop-drop (length part) at xs)
 
 pub returns : goal.returns
-returns c = put_over c.args.at c.args.octets.now c.copy-from-slice.new.self c.args.part.now c.copy-from-slice.ensures.after
+returns c = put_over c.args.at c.args.octets.now c.copy_from_slice.new.self c.args.part.now c.copy_from_slice.ensures.after

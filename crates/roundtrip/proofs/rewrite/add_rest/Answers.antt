@@ -11,15 +11,15 @@ use Rattle.roundtrip.proofs.rewrite.add_rest.Goals as goal
 pub loop-packet-init : goal.loop-packet-init
 loop-packet-init c = (refl, refl)
 
-pub returns-in-err-add : goal.returns-in-err-add
-returns-in-err-add c =
-    let p = err_from_is_err_and c.from-residual.result c.from-residual.ensures.1 in
-    let a = c.in-err-add.ensures in
+pub returns-in_err-add : goal.returns-in_err-add
+returns-in_err-add c =
+    let p = err_from_is_err_and c.from_residual.result c.from_residual.ensures.1 in
+    let a = c.in_err-add.ensures in
     let w = c.loop-packet.writer in
     let f = first_some (ahead c.loop-packet.packets) _ c.in-Some.ensures.packet in
     rw (p.1, p.2) (record {
       sent = c.loop-packet.invariant.0 ∙ ap (λ l. sent l (draft w)) f ∙ refuses (content c.in-Some.packet) (drop 1 (ahead c.loop-packet.packets)) (draft w) _ a.answer
-          ∙ ap (λ (d : Draft). record { answer = Err c.in-err-add.field-0.0; buffer = d.buffer }) (sym a.draft);
+          ∙ ap (λ (d : Draft). record { answer = Err c.in_err-add.field-0.0; buffer = d.buffer }) (sym a.draft);
       lender = a.lender ∙ c.loop-packet.invariant.1;
     })
 
@@ -31,7 +31,7 @@ loop-packet-smaller c =
 
 pub loop-packet-preserved : goal.loop-packet-preserved
 loop-packet-preserved c =
-    let a = c.in-ok-add.ensures in
+    let a = c.in_ok-add.ensures in
     let w = c.loop-packet.writer in
     let f = first_some (ahead c.loop-packet.packets) _ c.in-Some.ensures.packet in (
       c.loop-packet.invariant.0 ∙ ap (λ l. sent l (draft w)) f ∙ takes (content c.in-Some.packet) (drop 1 (ahead c.loop-packet.packets)) (draft w) _ a.answer ∙ (λ i. sent (sym c.in-Some.ensures.rest i) (sym a.draft i)),
@@ -41,4 +41,4 @@ loop-packet-preserved c =
 pub returns : goal.returns
 returns c =
     let w = c.loop-packet.writer in
-    record { sent = c.loop-packet.invariant.0 ∙ ap (λ l. sent l (draft w)) (first_none (ahead c.loop-packet.packets) c.in-default.ensures.packet); lender = c.loop-packet.invariant.1 }
+    record { sent = c.loop-packet.invariant.0 ∙ ap (λ l. sent l (draft w)) (first_none (ahead c.loop-packet.packets) c.in_default.ensures.packet); lender = c.loop-packet.invariant.1 }

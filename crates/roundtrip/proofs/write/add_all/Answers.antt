@@ -13,22 +13,22 @@ use Rattle.roundtrip.proofs.write.add_all.Goals as goal
 pub loop-packet-init : goal.loop-packet-init
 loop-packet-init c = (refl, refl)
 
-pub returns-in-err-add : goal.returns-in-err-add
-returns-in-err-add c =
-    let p = err_from_is_err_and c.from-residual.result c.from-residual.ensures.1 in
-    let a = c.in-err-add.ensures in
+pub returns-in_err-add : goal.returns-in_err-add
+returns-in_err-add c =
+    let p = err_from_is_err_and c.from_residual.result c.from_residual.ensures.1 in
+    let a = c.in_err-add.ensures in
     let w = c.loop-packet.writer in
     let F : List Packet → Sent = λ l. sent (map content l) (draft w) in
     rw (p.1, p.2) (record {
       sent = c.loop-packet.invariant.0 ∙ at_drop_more F c.args.packets.now c.loop-packet.packet-index (packet.Version 0 0) c.loop-packet-test.true
           ∙ refuses (content (get_or c.args.packets.now c.loop-packet.packet-index (packet.Version 0 0))) (map content (drop (c.loop-packet.packet-index + 1) c.args.packets.now)) (draft w) _ a.answer
-          ∙ ap (λ (d : Draft). record { answer = Err c.in-err-add.field-0.0; buffer = d.buffer }) (sym a.draft);
+          ∙ ap (λ (d : Draft). record { answer = Err c.in_err-add.field-0.0; buffer = d.buffer }) (sym a.draft);
       lender = a.lender ∙ c.loop-packet.invariant.1;
     })
 
 pub loop-packet-preserved : goal.loop-packet-preserved
 loop-packet-preserved c =
-    let a = c.in-ok-add.ensures in
+    let a = c.in_ok-add.ensures in
     let w = c.loop-packet.writer in
     let F : List Packet → Sent = λ l. sent (map content l) (draft w) in (
       c.loop-packet.invariant.0 ∙ at_drop_more F c.args.packets.now c.loop-packet.packet-index (packet.Version 0 0) c.loop-packet-test.true

@@ -5,4 +5,4 @@ use Rattle.script.proofs.parts.behind_part.Goals as goal
 pub returns : goal.returns
 returns c =
     let xs = c.args.text.now in
-    take_rest xs c.part-length-end.result ∙ ap (λ n. drop n xs) c.part-length-end.ensures.value
+    take_rest xs c.part_length-end.result ∙ ap (λ n. drop n xs) c.part_length-end.ensures.value

@@ -8,11 +8,11 @@ use Rattle.script.proofs.reader.all_numbers.Goals as goal
 pub loop-part-preserved : goal.loop-part-preserved
 loop-part-preserved c =
     let xs = numbers_of c.loop-part.read in
-    let n = c.in-ok-read-number.field-0 in
+    let n = c.in_ok-read_number.field-0 in
     let p = c.in-Some.part.now in
     let ps = to_come c.next.new.self in
     ap (λ ys. option_map (λ ns. take 9 (ys ++ ns)) (numbers ps)) c.add.ensures
-    ∙ numbers_more p xs ps n (sym c.read-number.ensures ∙ c.in-ok-read-number.was)
+    ∙ numbers_more p xs ps n (sym c.read_number.ensures ∙ c.in_ok-read_number.was)
     ∙ ap (λ qs. option_map (λ ns. take 9 (xs ++ ns)) (numbers qs)) (sym c.in-Some.ensures)
     ∙ c.loop-part.invariant
 
@@ -21,5 +21,5 @@ returns c =
     let read = c.loop-part.read in
     let xs = numbers_of read in
     ap Some (sym (numbers_all xs (omega (arith, length-take read.count read.numbers, read.within))))
-    ∙ ap (λ qs. option_map (λ ns. take 9 (xs ++ ns)) (numbers qs)) (sym c.in-default.ensures.0)
+    ∙ ap (λ qs. option_map (λ ns. take 9 (xs ++ ns)) (numbers qs)) (sym c.in_default.ensures.0)
     ∙ c.loop-part.invariant

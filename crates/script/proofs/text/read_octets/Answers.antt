@@ -15,8 +15,8 @@ pub returns-then-len-ge255 : goal.returns-then-len-ge255
 returns-then-len-ge255 c =
     let rest = c.loop-rest.rest.now in
     let n = c.loop-rest.len in
-    let o = c.in-ok-read.read in
-    let e = pair_on rest o (omega (arith, ltb-false)) (sym c.octet.ensures ∙ c.in-ok-read.was) in
+    let o = c.in_ok-read.read in
+    let e = pair_on rest o (omega (arith, ltb-false)) (sym c.octet.ensures ∙ c.in_ok-read.was) in
     pair_full c.loop-rest.held c.args.text.now n o (octets (take (length rest - 2) (drop 2 rest))) c.loop-rest.invariant.0 (omega (arith, c.loop-rest.invariant.1)) (ap (option_map (λ os. take n c.loop-rest.held ++ os)) (sym e) ∙ c.loop-rest.invariant.2)
 
 pub loop-rest-preserved : goal.loop-rest-preserved
@@ -24,6 +24,6 @@ loop-rest-preserved c =
     let rest = c.loop-rest.rest.now in
     let held = c.loop-rest.held in
     let n = c.loop-rest.len in
-    let o = c.in-ok-read.read in
-    let e = pair_on rest o (omega (arith, ltb-false)) (sym c.octet.ensures ∙ c.in-ok-read.was) in
+    let o = c.in_ok-read.read in
+    let e = pair_on rest o (omega (arith, ltb-false)) (sym c.octet.ensures ∙ c.in_ok-read.was) in
     (length-set held n o ∙ c.loop-rest.invariant.0, omega arith, pair_held held c.args.text.now n o (octets (take (length rest - 2) (drop 2 rest))) (omega arith) (ap (option_map (λ os. take n held ++ os)) (sym e) ∙ c.loop-rest.invariant.2))

@@ -7,5 +7,5 @@ returns-then-bits-lt-HEADER c = too_short c.args.octets.now c.args.trip c.args.s
 
 pub returns : goal.returns
 returns c =
-    c.is-strange.ensures
-    ∙ strange c.args.octets.now c.args.trip c.args.start c.args.bits c.requires.1 c.if-bits-lt-HEADER.false _ _ c.number-at-number.ensures.value (c.from.ensures ∙ c.number-at-length.ensures.value)
+    c.is_strange.ensures
+    ∙ strange c.args.octets.now c.args.trip c.args.start c.args.bits c.requires.1 c.if-bits-lt-HEADER.false _ _ c.number_at-number.ensures.value (c.from.ensures ∙ c.number_at-length.ensures.value)

@@ -13,5 +13,5 @@ explains v r e = subst (λ (x : Option Condition). ExactlyWhen v (standard_answe
 pub returns : goal.returns
 unfolding reason_for
 returns c =
-    let e : c.unless-forbidden.result ≡ reason_for c.args.view = search rules in
-    record { value = e; exactly = explains c.args.view c.unless-forbidden.result e }
+    let e : c.unless_forbidden.result ≡ reason_for c.args.view = search rules in
+    record { value = e; exactly = explains c.args.view c.unless_forbidden.result e }

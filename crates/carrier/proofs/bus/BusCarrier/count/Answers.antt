@@ -5,4 +5,4 @@ use Rattle.line.specs.Waiting.{waits}
 use Rattle.carrier.proofs.bus.BusCarrier.count.Goals as goal
 
 pub returns : goal.returns
-returns c = c.in-line.ensures ∙ sym (length-map (waits c.args.self.now.line) octets_of)
+returns c = c.in_line.ensures ∙ sym (length-map (waits c.args.self.now.line) octets_of)

@@ -6,4 +6,4 @@ use Rattle.carrier.proofs.Framed.{nth_map}
 use Rattle.carrier.proofs.bus.BusCarrier.look.Goals as goal
 
 pub returns : goal.returns
-returns c = ap (option_map octets_of) c.on-line.ensures ∙ nth_map octets_of (waits c.args.self.now.line) c.args.place
+returns c = ap (option_map octets_of) c.on_line.ensures ∙ nth_map octets_of (waits c.args.self.now.line) c.args.place

@@ -4,11 +4,11 @@ use Rattle.carrier.proofs.bus.BusCarrier.put.Goals as goal
 pub returns-in-Ok : goal.returns-in-Ok
 returns-in-Ok c =
     let xs = c.args.frame.now in
-    let f = c.in-ok-frame.frame in
+    let f = c.in_ok-frame.frame in
     let l = c.args.self.now.line in
     let m = c.put.new.self in
     let u = c.in-Ok.field-0 in
-    let is = c.in-ok-frame.ensures in
+    let is = c.in_ok-frame.ensures in
     let e = c.in-Ok.ensures in
     record {
       answer = put_granted xs f l m u is e.answer;

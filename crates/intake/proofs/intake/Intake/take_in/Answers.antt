@@ -23,21 +23,21 @@ loop-taken-preserved c =
     let new : told (so_far c.loop-taken.self) (get_or xs i 0 ∷ []) ≡ told (left held (take i xs)) (get_or xs i 0 ∷ []) = ap (λ ys. told ys (get_or xs i 0 ∷ [])) here in
     let m = told_more held xs i c.loop-taken-test.true in
     let front = heard c.args.ahead.now in
-    let now = c.take-octet.ensures.waiting in
+    let now = c.take_octet.ensures.waiting in
     let before = c.loop-taken.invariant.1 in
-    let room-now = c.take-octet.ensures.places in
+    let room-now = c.take_octet.ensures.places in
     let room-before = c.loop-taken.invariant.3 in (
       omega arith,
       now ∙ ap (λ ys. ys ++ told (so_far c.loop-taken.self) (get_or xs i 0 ∷ [])) before ∙ append_assoc front (told held (take i xs)) (told (so_far c.loop-taken.self) (get_or xs i 0 ∷ [])) ∙ ap (λ ys. front ++ (told held (take i xs) ++ ys)) new ∙ ap (λ ys. front ++ ys) (sym m),
-      c.take-octet.ensures.rest ∙ ap (λ ys. left ys (get_or xs i 0 ∷ [])) here ∙ sym (left_more held xs i c.loop-taken-test.true),
+      c.take_octet.ensures.rest ∙ ap (λ ys. left ys (get_or xs i 0 ∷ [])) here ∙ sym (left_more held xs i c.loop-taken-test.true),
       omega (arith, room-now, room-before, ap length m, ap length new, length-append (told held (take i xs)) (told (left held (take i xs)) (get_or xs i 0 ∷ []))),
-      c.take-octet.ensures.lender ∙ c.loop-taken.invariant.4,
+      c.take_octet.ensures.lender ∙ c.loop-taken.invariant.4,
     )
 
-pub returns-else-has-place : goal.returns-else-has-place
-returns-else-has-place c = record {
+pub returns-else-has_place : goal.returns-else-has_place
+returns-else-has_place c = record {
   within = c.loop-taken.invariant.0;
-  stops = λ _. omega (arith, ltb-false _ _ (sym c.if-has-place.ensures));
+  stops = λ _. omega (arith, ltb-false _ _ (sym c.if-has_place.ensures));
   waiting = c.loop-taken.invariant.1;
   rest = c.loop-taken.invariant.2;
   places = c.loop-taken.invariant.3;

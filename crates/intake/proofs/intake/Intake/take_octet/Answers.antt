@@ -8,12 +8,12 @@ use Rattle.intake.specs.Meaning.{heard, so_far}
 use Rattle.intake.proofs.Taking.{granted}
 use Rattle.intake.proofs.intake.Intake.take_octet.Goals as goal
 
-pub returns-then-ends-line : goal.returns-then-ends-line
-returns-then-ends-line c =
+pub returns-then-ends_line : goal.returns-then-ends_line
+returns-then-ends_line c =
     let line = c.args.ahead.now in
     let held = so_far c.args.self.now in
     let ok : is_ok c.put.result ≡ true = granted (room line) c.put.result c.requires c.put.ensures.answer in
-    let feed : eqb c.args.octet 10 ≡ true = sym c.if-ends-line.ensures in
+    let feed : eqb c.args.octet 10 ≡ true = sym c.if-ends_line.ensures in
     let put = c.put.ensures.waiting in
     let more : waits c.put.new.self ≡ waits line ++ c.end.result ∷ [] = put ∙ ap (λ b. cond b (waits line ++ c.end.result ∷ []) (waits line)) ok in
     let said_more : heard c.put.new.self ≡ heard line ++ reading held ∷ [] =

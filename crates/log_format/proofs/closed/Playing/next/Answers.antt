@@ -9,10 +9,10 @@ use Rattle.log_format.specs.declared.closed.Playing.{Playing}
 use Rattle.log_format.proofs.Entries.{frames_first, frames_short, frames_wrong}
 use Rattle.log_format.proofs.closed.Playing.next.Goals as goal
 
-pub returns-then-is-over : goal.returns-then-is-over
-returns-then-is-over c =
+pub returns-then-is_over : goal.returns-then-is_over
+returns-then-is_over c =
     let p = c.args.self.now in
-    let z = eqb-true p.left 0 (sym c.if-is-over.ensures) in
+    let z = eqb-true p.left 0 (sym c.if-is_over.ensures) in
     let e : to_play p ≡ [] = ap (λ n. frames_up_to n p.rest.now) z in
     record { answer = sym (ap (λ fs. slice_get fs 0) e); rest = e ∙ sym (ap (drop 1) e) }
 
@@ -22,19 +22,19 @@ returns-then-self-lt-ENTRY c =
     let e : to_play p ≡ [] = frames_short p.left p.rest.now c.if-self-lt-ENTRY.true in
     record { answer = sym (ap (λ fs. slice_get fs 0) e); rest = e ∙ sym (ap (drop 1) e) }
 
-pub returns-in-err-frame : goal.returns-in-err-frame
-returns-in-err-frame c =
+pub returns-in_err-frame : goal.returns-in_err-frame
+returns-in_err-frame c =
     let p = c.args.self.now in
-    let e : to_play p ≡ [] = frames_wrong p.left p.rest.now c.split-at.result.0.now c.split-at.ensures.front c.in-err-frame.ensures in
-    record { answer = ap (option_map octets_of) c.from-residual.ensures ∙ sym (ap (λ fs. slice_get fs 0) e); rest = e ∙ sym (ap (drop 1) e) }
+    let e : to_play p ≡ [] = frames_wrong p.left p.rest.now c.split_at.result.0.now c.split_at.ensures.front c.in_err-frame.ensures in
+    record { answer = ap (option_map octets_of) c.from_residual.ensures ∙ sym (ap (λ fs. slice_get fs 0) e); rest = e ∙ sym (ap (drop 1) e) }
 
 pub returns : goal.returns
 returns c =
     let p = c.args.self.now in
-    let z = eqb-false p.left 0 (sym c.if-is-over.ensures) in
+    let z = eqb-false p.left 0 (sym c.if-is_over.ensures) in
     let l : 0 < p.left = omega arith in
-    let e = frames_first p.left p.rest.now c.split-at.result.0.now (octets_of c.in-ok-frame.frame) c.split-at.result.1.now l c.split-at.ensures.front c.split-at.ensures.back c.in-ok-frame.ensures in
+    let e = frames_first p.left p.rest.now c.split_at.result.0.now (octets_of c.in_ok-frame.frame) c.split_at.result.1.now l c.split_at.ensures.front c.split_at.ensures.back c.in_ok-frame.ensures in
     record { answer = sym (ap (λ fs. slice_get fs 0) e); rest = sym (ap (drop 1) e) }
 
-pub overflow-sub-self : goal.overflow-sub-self
-overflow-sub-self c = let z = eqb-false c.args.self.now.left 0 (sym c.if-is-over.ensures) in omega arith
+pub overflow_sub-self : goal.overflow_sub-self
+overflow_sub-self c = let z = eqb-false c.args.self.now.left 0 (sym c.if-is_over.ensures) in omega arith

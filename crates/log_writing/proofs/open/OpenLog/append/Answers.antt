@@ -10,33 +10,33 @@ use Rattle.log_writing.proofs.open.OpenLog.append.Goals as goal
 pub loop-i-init : goal.loop-i-init
 loop-i-init c = let l = c.args.self.now in (refl, over_none (17 * l.count) l.octets.now, refl)
 
-pub invariant-of-self : goal.invariant-of-self
-invariant-of-self c =
+pub invariant_of-self : goal.invariant_of-self
+invariant_of-self c =
     let l = c.loop-i.self in
     let k = 17 * c.args.self.now.count + c.loop-i.i in
-    let x = get_or c.entry-of-written.result c.loop-i.i 0 in
+    let x = get_or c.entry_of-written.result c.loop-i.i 0 in
     let h : 17 * l.count ≤ k = omega (arith, c.loop-i.invariant.0) in
     (subst (λ n. l.count ≤ places_in n) (sym (length-set l.octets.now k x)) l.fits, (right_set l.count k x l.octets.now h l.right, tt))
 
 pub loop-i-preserved : goal.loop-i-preserved
 loop-i-preserved c =
     let l = c.args.self.now in
-    let e = c.entry-of-written.result in
+    let e = c.entry_of-written.result in
     let i = c.loop-i.i in
-    let size = ap length c.entry-of-written.ensures ∙ length_entry (octets_of c.args.frame.now) (frame_size_lem c.args.frame.now) in
+    let size = ap length c.entry_of-written.ensures ∙ length_entry (octets_of c.args.frame.now) (frame_size_lem c.args.frame.now) in
     let h : i < length e = omega arith in
     let fits : 17 * l.count + length e ≤ length l.octets.now = omega (arith, c.requires) in
     (c.loop-i.invariant.0, ap (λ w. set w (17 * l.count + i) (get_or e i 0)) c.loop-i.invariant.1 ∙ over_more (17 * l.count) i e l.octets.now h fits, c.loop-i.invariant.2)
 
-pub invariant-of-self-2 : goal.invariant-of-self-2
-invariant-of-self-2 c =
+pub invariant_of-self-2 : goal.invariant_of-self-2
+invariant_of-self-2 c =
     let l = c.args.self.now in
     let m = c.loop-i.self in
     let os = l.octets.now in
     let f = octets_of c.args.frame.now in
     let sized = frame_size_lem c.args.frame.now in
     let fits : 17 * l.count + 17 ≤ length os = omega (arith, c.requires) in
-    let whole = entry_whole l.count c.loop-i.i c.entry-of-written.result f os m.octets.now c.loop-i.invariant.1 c.entry-of-written.ensures sized c.loop-i-test.false in
+    let whole = entry_whole l.count c.loop-i.i c.entry_of-written.result f os m.octets.now c.loop-i.invariant.1 c.entry_of-written.ensures sized c.loop-i-test.false in
     let same : length m.octets.now ≡ length os = ap length whole ∙ length_put l.count os f sized fits in
     let one : m.count + 1 ≡ l.count + 1 = ap (λ k. k + 1) c.loop-i.invariant.0 in
     let few : l.count + 1 ≤ places_in (length os) = omega (arith, c.requires) in (
@@ -53,6 +53,6 @@ returns c =
     let l = c.args.self.now in
     record {
       count = ap (λ k. k + 1) c.loop-i.invariant.0;
-      octets = entry_whole l.count c.loop-i.i c.entry-of-written.result (octets_of c.args.frame.now) l.octets.now c.loop-i.self.octets.now c.loop-i.invariant.1 c.entry-of-written.ensures (frame_size_lem c.args.frame.now) c.loop-i-test.false;
+      octets = entry_whole l.count c.loop-i.i c.entry_of-written.result (octets_of c.args.frame.now) l.octets.now c.loop-i.self.octets.now c.loop-i.invariant.1 c.entry_of-written.ensures (frame_size_lem c.args.frame.now) c.loop-i-test.false;
       lender = c.loop-i.invariant.2;
     }

@@ -13,9 +13,9 @@ closed l new t h e = h ∙ ap (λ x. overwritten (17 * l.count) x (open_octets l
 pub returns : goal.returns
 returns c =
     let l = c.args.self in
-    let new = c.write-at.new.octets in
+    let new = c.write_at.new.octets in
     let long : 8 ≤ length (open_octets l) = c.if-octets-lt-TRAILER.false in
-    let stored = closed l new c.trailer-of.result c.write-at.ensures c.trailer-of.ensures in
+    let stored = closed l new c.trailer_of.result c.write_at.ensures c.trailer_of.ensures in
     record {
       frames = close_frames l new long stored;
       octets = close_octets l new long stored;

@@ -2,13 +2,13 @@ use Rattle.std.proofs.Common.{sym, arith, ltb-false, ltb-true}
 use Rattle.script.proofs.Keeping.{kept_more, kept_all}
 use Rattle.script.proofs.numbers.Numbers.add.Goals as goal
 
-pub returns-then-has-room : goal.returns-then-has-room
-returns-then-has-room c =
+pub returns-then-has_room : goal.returns-then-has_room
+returns-then-has_room c =
     let s = c.args.self.now in
-    kept_more 9 s.numbers s.count c.args.number s.full (ltb-true _ _ (sym c.if-has-room.ensures))
+    kept_more 9 s.numbers s.count c.args.number s.full (ltb-true _ _ (sym c.if-has_room.ensures))
 
-pub returns-else-has-room : goal.returns-else-has-room
-returns-else-has-room c =
+pub returns-else-has_room : goal.returns-else-has_room
+returns-else-has_room c =
     let s = c.args.self.now in
-    let h = ltb-false _ _ (sym c.if-has-room.ensures) in
+    let h = ltb-false _ _ (sym c.if-has_room.ensures) in
     kept_all 9 s.numbers s.count c.args.number s.full (omega arith)

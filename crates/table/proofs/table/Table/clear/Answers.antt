@@ -7,6 +7,6 @@ use Rattle.table.proofs.table.Table.clear.Goals as goal
 pub returns : goal.returns
 returns c = record {
   settings = refl;
-  rows = ap (take (length (agreed c.args.self.now.settings).numbers)) c.fresh-rows-self.ensures ∙ fresh_front c.args.self.now.settings
+  rows = ap (take (length (agreed c.args.self.now.settings).numbers)) c.fresh_rows-self.ensures ∙ fresh_front c.args.self.now.settings
       ∙ ap (λ n. replicate n fresh_row) (sym (rows_count c.args.self.now));
 }

@@ -6,5 +6,5 @@ use Rattle.table.proofs.table.Table.fresh.Goals as goal
 pub returns : goal.returns
 returns c = record {
   settings = refl;
-  rows = ap (take (length (agreed c.args.settings).numbers)) c.fresh-rows.ensures ∙ fresh_front c.args.settings;
+  rows = ap (take (length (agreed c.args.settings).numbers)) c.fresh_rows.ensures ∙ fresh_front c.args.settings;
 }

@@ -3,5 +3,5 @@ use Rattle.rows.specs.Links.{dropped}
 use Rattle.table.proofs.TableLaws.{nothing_changed}
 use Rattle.table.proofs.table.Table.lose.Goals as goal
 
-pub returns-in-default : goal.returns-in-default
-returns-in-default c = record { settings = refl; rows = nothing_changed c.args.self.now c.args.number c.in-default.ensures dropped }
+pub returns-in_default : goal.returns-in_default
+returns-in_default c = record { settings = refl; rows = nothing_changed c.args.self.now c.args.number c.in_default.ensures dropped }

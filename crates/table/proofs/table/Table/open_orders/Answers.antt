@@ -14,7 +14,7 @@ pub loop-row-preserved : goal.loop-row-preserved
 loop-row-preserved c =
     let xs = c.rows-row-items.result.now in
     let i = c.loop-row.row-index in
-    let e = c.open-orders-count.ensures in
+    let e = c.open_orders-count.ensures in
     (omega (arith, sum_by_more opens xs i fresh_row c.loop-row-test.true, c.loop-row.invariant.0), omega (arith, c.loop-row.invariant.1, open_few (get_or xs i fresh_row).open))
 
 pub returns : goal.returns

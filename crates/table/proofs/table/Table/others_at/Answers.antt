@@ -9,5 +9,5 @@ returns-else-before c =
     let rows = rows_in c.args.self.now in
     let s = c.args.state in
     let i = c.args.place in
-    let none : some_at s (take i rows) ≡ false = sym (c.some-at-before.ensures ∙ front_at s _ rows i c.rows-rows.ensures) ∙ c.if-before.false in
-    c.some-at-behind.ensures ∙ back_at s _ rows i c.rows-rows.ensures ∙ ap (λ b. b || some_at s (drop (i + 1) rows)) (sym none)
+    let none : some_at s (take i rows) ≡ false = sym (c.some_at-before.ensures ∙ front_at s _ rows i c.rows-rows.ensures) ∙ c.if-before.false in
+    c.some_at-behind.ensures ∙ back_at s _ rows i c.rows-rows.ensures ∙ ap (λ b. b || some_at s (drop (i + 1) rows)) (sym none)

@@ -5,10 +5,10 @@ use Rattle.rows.specs.Links.{parted}
 use Rattle.table.proofs.TableLaws.{nothing_changed, nothing_counted}
 use Rattle.table.proofs.table.Table.part.Goals as goal
 
-pub returns-in-err-row : goal.returns-in-err-row
-returns-in-err-row c = record {
+pub returns-in_err-row : goal.returns-in_err-row
+returns-in_err-row c = record {
   settings = refl;
-  rows = nothing_changed c.args.self.now c.args.number c.in-err-row.ensures parted;
-  answered = ap answered_of c.from-residual.ensures;
-  failed = ap failed_of c.from-residual.ensures ∙ nothing_counted c.args.self.now c.args.number c.in-err-row.ensures lost_by;
+  rows = nothing_changed c.args.self.now c.args.number c.in_err-row.ensures parted;
+  answered = ap answered_of c.from_residual.ensures;
+  failed = ap failed_of c.from_residual.ensures ∙ nothing_counted c.args.self.now c.args.number c.in_err-row.ensures lost_by;
 }

@@ -16,10 +16,10 @@ returns g c =
     let i = c.args.place in
     let p : Setup = setup g.B.Book.answer g.B.Book.limit (agreed table.settings) c.args.book.now in
     let t : Tally = tallied (g.C.Carrier.waiting c.args.carrier.now) (g.C.Carrier.free c.args.carrier.now) c.args.sent.now in
-    let last = c.put-all-going.new in
-    let u : Progress = progress_of last.self (g.C.Carrier.waiting last.carrier) (g.C.Carrier.free last.carrier) c.put-all-going.result in
+    let last = c.put_all-going.new in
+    let u : Progress = progress_of last.self (g.C.Carrier.waiting last.carrier) (g.C.Carrier.free last.carrier) c.put_all-going.result in
     let e : u ≡ turn_at p c.args.surroundings.now rows i t =
-    turn_is p c.args.surroundings.now rows i t _ _ _ u c.requires.0 c.number-at.ensures c.row-at.ensures c.puts-at-puts.ensures c.put-all-going.ensures in
+    turn_is p c.args.surroundings.now rows i t _ _ _ u c.requires.0 c.number_at.ensures c.row_at.ensures c.puts_at-puts.ensures c.put_all-going.ensures in
     record {
       settings = refl;
       rows = take_with_set (length (agreed table.settings).numbers) table.rows i u.row ∙ ap (λ (x : Progress). set rows i x.row) e;

@@ -10,8 +10,8 @@ loop-row-preserved g c =
     let l = c.loop-row in
     let e = c.tick.ensures in (
       change_more (ticked limits) c.args.rows.now l.rows l.row-index l.invariant.0 c.loop-row-test.true l.auto.rows _ c.tick.new.self e.row,
-      count_more (ticked limits) c.args.rows.now l.rows l.row-index l.invariant.0 c.loop-row-test.true l.auto.rows _ (lost_by_tick limits) l.failed c.failed-by-failed.result l.invariant.1 (c.failed-by-failed.ensures.is ∙ e.failed),
-      omega (arith, l.invariant.2, c.failed-by-failed.ensures.few),
+      count_more (ticked limits) c.args.rows.now l.rows l.row-index l.invariant.0 c.loop-row-test.true l.auto.rows _ (lost_by_tick limits) l.failed c.failed_by-failed.result l.invariant.1 (c.failed_by-failed.ensures.is ∙ e.failed),
+      omega (arith, l.invariant.2, c.failed_by-failed.ensures.few),
     )
 
 pub returns : goal.returns

@@ -4,7 +4,7 @@ use Rattle.carrier.specs.Buses.{frames_of}
 use Rattle.vocabulary.specs.Octets.{octets_of}
 use Rattle.transcript.specs.Keeping.{Filled}
 use Rattle.transcript.proofs.Fills.{fills_none, fills_more, fills_map, drop_nth, drop_none, drop_past, nth_none}
-use Rattle.transcript.proofs.keeper.ops.keep_frames.Goals.{in-Some, in-default}
+use Rattle.transcript.proofs.keeper.ops.keep_frames.Goals.{in-Some, in_default}
 use Rattle.transcript.proofs.keeper.ops.keep_frames.Goals as goal
 
 pub loop-place-init : goal.loop-place-init
@@ -29,8 +29,8 @@ loop-place-preserved g c =
             subst (λ v. Filled (frames_of (waits first)) (room first) (i.0 ++ (o ∷ [])) (frames_of (waits v)) (room v)) (sym w.frames-is) kept,
           )
           )
-      | in-default w ↦ (
-          let none : drop at ws ≡ [] = nth_none ws at w.in-default.ensures in
+      | in_default w ↦ (
+          let none : drop at ws ≡ [] = nth_none ws at w.in_default.ensures in
           let past : drop (at + 1) ws ≡ [] = drop_past ws at none in (
             i.0,
             ap (λ v. i.0 ++ v) (past ∙ sym none) ∙ i.1,

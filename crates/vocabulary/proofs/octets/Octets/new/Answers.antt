@@ -1,4 +1,4 @@
-use Rattle.std.proofs.Common.{◌≡◌, ℕ, ◌+◌, ◌<◌, ◌≤◌, true, false, List, length, get_or, take, Some, sym, refl, ap, ◌∙◌, subst, arith, length-set}
+use Rattle.std.proofs.Common.{◌≡◌, ℕ, ◌<◌, ◌≤◌, true, List, length, get_or, take, Some, sym, refl, ap, ◌∙◌, subst, arith, length-set}
 use lib.ListN.{length-replicate}
 use Rattle.std.proofs.lemmas.List.{take_more, take_more_set, take_all}
 use Rattle.std.proofs.lemmas.Bool.Decides.{nat_tests}
@@ -17,7 +17,7 @@ loop-i-preserved g c =
     let held = c.loop-i.held in
     let i = c.loop-i.i in
     let xs = c.args.octets.now in
-    let n = few g.row.N xs c.if-not-in-size.ensures in
+    let n = few g.row.N xs c.if-not-in_size.ensures in
     let l : i < length held = omega arith in
     let m : i < length xs = omega arith in
     let e = take_more_set held i (get_or xs i 0) l in
@@ -35,4 +35,4 @@ whole n i held xs at same fits =
 
 pub returns : goal.returns
 returns g c =
-    whole g.row.N c.loop-i.i c.loop-i.held c.args.octets.now (omega arith) c.loop-i.invariant.1 (sym c.if-not-in-size.ensures)
+    whole g.row.N c.loop-i.i c.loop-i.held c.args.octets.now (omega arith) c.loop-i.invariant.1 (sym c.if-not-in_size.ensures)

@@ -1,4 +1,4 @@
-use Rattle.std.proofs.Common.{◌≡◌, ℕ, length, take}
+use Rattle.std.proofs.Common.{◌≡◌, length, take}
 use Rattle.vocabulary.proofs.octets.Octets.new.Given as goal
 
 abbrev pub invariant-loop-i : goal.invariant-loop-i

@@ -1,4 +1,4 @@
-use Rattle.std.proofs.Common.{◌≡◌, ◌+◌, ◌≤◌, [], length, take, drop}
+use Rattle.std.proofs.Common.{◌≡◌, ◌+◌, [], length, take, drop}
 use Rattle.vocabulary.specs.Rules.{wrong_from}
 use Rattle.vocabulary.proofs.settings.checks.proper.Given as goal
 

@@ -13,8 +13,8 @@ returns c =
     let r = c.args.self.now in
     record {
       enough = omega (arith, length_left r);
-      value = c.number-at-v.ensures.value ∙ ap (number_from_digits 2) (sym (front (bits_of r.octets.now) r.at c.args.n r.end (omega arith)));
-      small = c.number-at-v.ensures.small;
+      value = c.number_at-v.ensures.value ∙ ap (number_from_digits 2) (sym (front (bits_of r.octets.now) r.at c.args.n r.end (omega arith)));
+      small = c.number_at-v.ensures.small;
       rest = sym (drop-drop c.args.n r.at _);
       at = refl;
       stays = record { octets = refl; start = refl; end = refl };

@@ -9,6 +9,6 @@ returns c =
     let r = c.args.self.now in
     let within : (r.start + c.args.from) + c.args.n ≤ r.end = omega arith in
     record {
-      value = c.number-at.ensures.value ∙ ap (number_from_digits 2) (sym (front (bits_of r.octets.now) (r.start + c.args.from) c.args.n r.end within) ∙ ap (take c.args.n) (sym (drop-drop c.args.from r.start _)));
-      small = c.number-at.ensures.small;
+      value = c.number_at.ensures.value ∙ ap (number_from_digits 2) (sym (front (bits_of r.octets.now) (r.start + c.args.from) c.args.n r.end within) ∙ ap (take c.args.n) (sym (drop-drop c.args.from r.start _)));
+      small = c.number_at.ensures.small;
     }

@@ -7,11 +7,11 @@ use Rattle.wire.proofs.reader.fields.number_at.Goals as goal
 narrow : (v k n : ℕ) → v < 2 ^ k → k < n → n ≤ 13 → v < 4096
 narrow v k n h l m = omega (arith, pow_mono {i = k} {j = 12} (omega arith))
 
-pub overflow-mul-v : goal.overflow-mul-v
-overflow-mul-v c = let s = narrow _ _ _ c.loop-k.invariant.1 c.loop-k-test.true c.requires.1.0 in record { fits = omega arith }
+pub overflow_mul-v : goal.overflow_mul-v
+overflow_mul-v c = let s = narrow _ _ _ c.loop-k.invariant.1 c.loop-k-test.true c.requires.1.0 in record { fits = omega arith }
 
-pub overflow-add-v : goal.overflow-add-v
-overflow-add-v c =
+pub overflow_add-v : goal.overflow_add-v
+overflow_add-v c =
     let s = narrow _ _ _ c.loop-k.invariant.1 c.loop-k-test.true c.requires.1.0 in
     let b = bit_small c.args.octets.now (c.args.from + c.loop-k.k) in
     record { fits = omega arith }

@@ -11,8 +11,8 @@ pub returns : goal.returns
 returns c =
     let w = c.args.self.now in
     let p = content c.args.packet.now in
-    let can = c.if-not-is-writable.ensures in
-    let size = c.size-of.ensures (trip_of w.trip) (sym can) in
+    let can = c.if-not-is_writable.ensures in
+    let size = c.size_of.ensures (trip_of w.trip) (sym can) in
     let fits : length (written w) + length (encode (trip_of w.trip) p) ≤ 8 * room w.octets.now = omega (arith, c.room.ensures) in
     record {
       answer = granted p (draft w) can fits;

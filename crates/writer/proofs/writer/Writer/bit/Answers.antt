@@ -4,8 +4,8 @@ use Rattle.writer.proofs.WriterLaws.{fits_push, waits, fills, with_set, length_w
 use Rattle.writer.proofs.OctetLaws.{octets_push}
 use Rattle.writer.proofs.writer.Writer.bit.Goals as goal
 
-pub invariant-of-self : goal.invariant-of-self
-invariant-of-self c =
+pub invariant_of-self : goal.invariant_of-self
+invariant_of-self c =
     let w = c.args.self.now in
     let l = length_written w in
     let e : w.count ≡ 7 = omega arith in
@@ -13,8 +13,8 @@ invariant-of-self c =
     let size = length-set w.octets.now (2 + w.full) (w.waiting * 2 + c.args.b) in
     (omega arith, (omega arith, (omega arith, (octets_push _ _ _ (with_set w.octets.now w.full _ (omega arith)) w.octal (omega arith), (w.named, (w.octet, tt))))))
 
-pub invariant-of-self-else-self-eq-LAST : goal.invariant-of-self-else-self-eq-LAST
-invariant-of-self-else-self-eq-LAST c =
+pub invariant_of-self-else-self-eq-LAST : goal.invariant_of-self-else-self-eq-LAST
+invariant_of-self-else-self-eq-LAST c =
     let w = c.args.self.now in
     let l = length_written w in
     (omega arith, (omega arith, (fits_push w.count w.waiting c.args.b c.requires.1 w.fits, (w.octal, (w.named, (w.octet, tt))))))

@@ -14,16 +14,16 @@ returns c =
     let q = c.pad.ensures in
     let n = c.pad.result in
     let s₁ = w₁.octets.now in
-    let len = c.length-of-len.result in
+    let len = c.length_of-len.result in
     let two = drop-set-lt 2 (set s₁ 0 w₁.sender) 1 len (omega arith) ∙ drop-set-lt 2 s₁ 0 w₁.sender (omega arith) in
-    let some = sym c.if-is-empty.ensures in
+    let some = sym c.if-is_empty.ensures in
     record {
-      answer = ap Ok (c.length-of-len.ensures ∙ finish_length w n w₁ q) ∙ sym (cond-false _ _ _ some);
+      answer = ap Ok (c.length_of-len.ensures ∙ finish_length w n w₁ q) ∙ sym (cond-false _ _ _ some);
       draft = (λ i. record {
         sender = q.sender i;
         trip = trip_of (q.trip i);
         bits = (ap (λ l. bits_of (take w₁.full l) ++ field w₁.count w₁.waiting) two ∙ q.bits) i;
-        buffer = finish_buffer w n w₁ q w₁.sender len q.sender c.length-of-len.ensures i;
+        buffer = finish_buffer w n w₁ q w₁.sender len q.sender c.length_of-len.ensures i;
       }) ∙ sym (cond-false _ _ _ some);
       lender = q.lender;
     }

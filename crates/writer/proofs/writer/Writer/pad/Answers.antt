@@ -8,8 +8,8 @@ use Rattle.writer.proofs.writer.Writer.pad.Goals as goal
 pub returns-then-self-eq0 : goal.returns-then-self-eq0
 returns-then-self-eq0 c = pads_none c.args.self.now c.requires (omega arith)
 
-pub invariant-of-self : goal.invariant-of-self
-invariant-of-self c =
+pub invariant_of-self : goal.invariant_of-self
+invariant_of-self c =
     let w = c.args.self.now in
     let size = length-set w.octets.now (2 + w.full) c.filled.result in
     (omega (arith, w.lies), (w.few, (w.fits, (ap are_octets (before_set w.octets.now w.full c.filled.result) ∙ w.octal, (w.named, (w.octet, tt))))))

@@ -13,6 +13,6 @@ returns c =
     let l = c.args.self.now in
     let os = l.octets.now in
     let i = c.args.place in
-    let at : c.entry-start-at.result ≡ 0 + 17 * i = c.entry-start-at.ensures ∙ omega arith in
-    c.read-entry.ensures ∙ ap read_entry (part_entry 0 i c.entry-start-at.result os at)
+    let at : c.entry_start-at.result ≡ 0 + 17 * i = c.entry_start-at.ensures ∙ omega arith in
+    c.read_entry.ensures ∙ ap read_entry (part_entry 0 i c.entry_start-at.result os at)
     ∙ read_at l.count i os (all_from (entries_in l.count os) 0 l.right) (omega arith)

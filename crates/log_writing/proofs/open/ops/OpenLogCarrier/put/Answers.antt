@@ -11,12 +11,12 @@ use Rattle.log_writing.proofs.open.ops.OpenLogCarrier.put.Goals as goal
 pub returns : goal.returns
 returns c =
     let xs = c.args.frame.now in
-    let f = c.in-ok-frame.frame in
+    let f = c.in_ok-frame.frame in
     let l = c.args.self.now in
     let m = c.append.new.self in
     let e = c.append.ensures in
-    let is = framed (in_size frame_size xs) xs (octets_of f) misfit_fault c.in-ok-frame.ensures in
-    let full = sym c.if-is-full.ensures in
+    let is = framed (in_size frame_size xs) xs (octets_of f) misfit_fault c.in_ok-frame.ensures in
+    let full = sym c.if-is_full.ensures in
     let a = is.0 in
     let free : l.count < places_in (length l.octets.now) = omega (arith, eqb-false (open_free l) 0 full) in
     record {

@@ -1,4 +1,4 @@
-use Rattle.std.proofs.Common.{◌≡◌, ℕ, ◌+◌, ◌/◌, ◌%◌, ◌<◌, ◌≤◌, cond, List, [], ◌∷◌, ◌++◌, length, get_or, take, sym, refl, ap, ◌∙◌, subst, arith}
+use Rattle.std.proofs.Common.{◌≡◌, ℕ, ◌/◌, ◌%◌, ◌<◌, ◌≤◌, List, [], ◌∷◌, ◌++◌, length, get_or, sym, refl, ap, subst, arith}
 use lib.Utf8.{encode}
 use Rattle.std.proofs.Output.{has_written_of_eq}
 use Rattle.std.proofs.lemmas.Str.Ascii.{encode_ascii}
@@ -26,19 +26,19 @@ loop-octet-init g c plain = put_none g.W.Write.write_str_gives octet_text (octet
 
 pub loop-octet-preserved : goal.loop-octet-preserved
 loop-octet-preserved g c plain =
-    let xs = c.as-slice-octet-items.result.now in
+    let xs = c.as_slice-octet-items.result.now in
     let ys = octets_of c.args.self.now in
     let i = c.loop-octet.octet-index in
-    let e : xs ≡ ys = c.as-slice-octet-items.ensures in
+    let e : xs ≡ ys = c.as_slice-octet-items.ensures in
     let l : i < length ys = subst (λ zs. i < length zs) e c.loop-octet-test.true in
     let before = c.loop-octet.invariant plain in
-    let h = c.in-ok-write.ensures.shows before.plain refl in
-    let t = written xs ys i c.hex-digit-high.result c.hex-digit-low.result e (omega arith) c.hex-digit-high.ensures c.hex-digit-low.ensures in
+    let h = c.in_ok-write.ensures.writes before.plain refl in
+    let t = written xs ys i c.hex_digit-high.result c.hex_digit-low.result e (omega arith) c.hex_digit-high.ensures c.hex_digit-low.ensures in
     put_item g.W.Write.write_str_gives octet_text ys i 0 c.args.f.now c.loop-octet.f c.write.new.self l before (has_written_of_eq g.W.Write.write_str_gives c.loop-octet.f _ _ c.write.new.self t h)
 
 pub returns-clause-writes : goal.returns-clause-writes
 returns-clause-writes g c plain ok =
     let ys = octets_of c.args.self.now in
-    let e = c.as-slice-octet-items.ensures in
+    let e = c.as_slice-octet-items.ensures in
     let l : length ys ≤ c.loop-octet.octet-index = subst (λ zs. length zs ≤ c.loop-octet.octet-index) e c.loop-octet-test.false in
     put_all g.W.Write.write_str_gives octet_text ys c.loop-octet.octet-index c.args.f.now c.loop-octet.f l (c.loop-octet.invariant plain)
