@@ -5,7 +5,7 @@ ghost use Rattle.writer.specs.Drafts.{are_octets};
 
 use vocabulary::trip::TripNumber;
 
-mod bits;
+mod filling;
 pub mod ops;
 mod packets;
 

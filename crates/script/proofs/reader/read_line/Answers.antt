@@ -15,5 +15,5 @@ returns c = record {
 pub returns-in_default : goal.returns-in_default
 returns-in_default c = record { value = search rules; back = reads_back }
 
-pub returns-in-default·2 : goal.returns-in-default·2
-returns-in-default·2 c = record { value = search rules; back = reads_back }
+pub returns-in_default-2 : goal.returns-in_default-2
+returns-in_default-2 c = record { value = search rules; back = reads_back }

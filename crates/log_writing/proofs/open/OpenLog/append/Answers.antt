@@ -16,7 +16,7 @@ invariant_of-self c =
     let k = 17 * c.args.self.now.count + c.loop-i.i in
     let x = get_or c.entry_of-written.result c.loop-i.i 0 in
     let h : 17 * l.count ≤ k = omega (arith, c.loop-i.invariant.0) in
-    (subst (λ n. l.count ≤ places_in n) (sym (length-set l.octets.now k x)) l.fits, (right_set l.count k x l.octets.now h l.right, tt))
+    record { fits = subst (λ n. l.count ≤ places_in n) (sym (length-set l.octets.now k x)) l.fits; right = right_set l.count k x l.octets.now h l.right }
 
 pub loop-i-preserved : goal.loop-i-preserved
 loop-i-preserved c =
@@ -39,14 +39,12 @@ invariant_of-self-2 c =
     let whole = entry_whole l.count c.loop-i.i c.entry_of-written.result f os m.octets.now c.loop-i.invariant.1 c.entry_of-written.ensures sized c.loop-i-test.false in
     let same : length m.octets.now ≡ length os = ap length whole ∙ length_put l.count os f sized fits in
     let one : m.count + 1 ≡ l.count + 1 = ap (λ k. k + 1) c.loop-i.invariant.0 in
-    let few : l.count + 1 ≤ places_in (length os) = omega (arith, c.requires) in (
-      subst (λ k. m.count + 1 ≤ places_in k) (sym same) (subst (λ k. k ≤ places_in (length os)) (sym one) few),
-      (
-        ap (λ os. is_some (wrong_from (entries_in (m.count + 1) os) 0)) whole ∙ ap (λ k. is_some (wrong_from (entries_in k (overwritten (17 * l.count) (entry_of f) os)) 0)) one
-            ∙ right_put l.count os f sized fits (all_from (entries_in l.count os) 0 l.right),
-        tt,
-      ),
-    )
+    let few : l.count + 1 ≤ places_in (length os) = omega (arith, c.requires) in
+    record {
+      fits = subst (λ k. m.count + 1 ≤ places_in k) (sym same) (subst (λ k. k ≤ places_in (length os)) (sym one) few);
+      right = ap (λ os. is_some (wrong_from (entries_in (m.count + 1) os) 0)) whole ∙ ap (λ k. is_some (wrong_from (entries_in k (overwritten (17 * l.count) (entry_of f) os)) 0)) one
+          ∙ right_put l.count os f sized fits (all_from (entries_in l.count os) 0 l.right);
+    }
 
 pub returns : goal.returns
 returns c =

@@ -16,7 +16,7 @@ loop-number-preserved g c plain =
     let e : xs ≡ ys = c.as_slice-number-items.ensures in
     let l : i < length ys = subst (λ zs. i < length zs) e c.loop-number-test.true in
     let before = c.loop-number.invariant plain in
-    let h = c.in_ok-write.ensures.shows before.plain refl in
+    let h = c.in_ok-write.ensures.writes before.plain refl in
     let t : spaced_number (get_or xs i 0) ≡ spaced_number (get_or ys i 0) = ap (λ zs. spaced_number (get_or zs i 0)) e in
     put_item g.W.Write.write_str_gives spaced_number ys i 0 c.args.f.now c.loop-number.f c.write.new.self l before (has_written_of_eq g.W.Write.write_str_gives c.loop-number.f _ _ c.write.new.self t h)
 

@@ -12,7 +12,7 @@ pub invariant_of-self : goal.invariant_of-self
 invariant_of-self c =
     let w = c.args.self.now in
     let size = length-set w.octets.now (2 + w.full) c.filled.result in
-    (omega (arith, w.lies), (w.few, (w.fits, (ap are_octets (before_set w.octets.now w.full c.filled.result) ∙ w.octal, (w.named, (w.octet, tt))))))
+    record { lies = omega (arith, w.lies); few = w.few; fits = w.fits; octal = ap are_octets (before_set w.octets.now w.full c.filled.result) ∙ w.octal; named = w.named; octet = w.octet }
 
 pub returns : goal.returns
 returns c =
