@@ -169,7 +169,7 @@ module _ (c : Setup) (good : Good c) (dist : Distinct c.settings.numbers) where
       let both = Moments.at c good dist w s rows free ln v so in
       let al = Moments.alone c good dist w s rows free ln v so t.alone in
       let tr : Tracks n c.limits m.rows (λ i. past i ++ events_at a i rows m) = record {
-        long = Moments.after-length c good dist w s rows free ln v so ∙ ln;
+        long = Moments.after_length c good dist w s rows free ln v so ∙ ln;
         sound = λ i h. (both i (within i h)).sound;
         same = λ i h. (both i (within i h)).moves ∙ ap (λ z. open_from z (events_at a i rows m)) (t.same i h) ∙ sym (open_append None (past i) (events_at a i rows m));
         sent = λ i h. subst (λ k. k + bit (row_at i m.rows).failure_due ≤ bit (is_failure (row_at i m.rows).held)) (sym (sent_append 0 (past i) (events_at a i rows m))) ((both i (within i h)).sent (sent_from 0 (past i)) (t.sent i h));
@@ -182,7 +182,7 @@ module _ (c : Setup) (good : Good c) (dist : Distinct c.settings.numbers) where
         alone = al;
         few = λ i h. (both i (within i h)).few (sent_from 0 (past i)) (t.sent i h);
         reasoned = λ i h. Moments.reasoned c good dist w s rows free ln v so i (within i h);
-        for_units = Moments.for-all c good dist w s rows free ln v so;
+        for_units = Moments.for_all c good dist w s rows free ln v so;
       }) (more tr)
 
   pub moments_held : (ws : List Step) (s : Surroundings) (rows : List Row) (free : ℕ) (past : ℕ → List Event) → AllValid a.numbers ws → Tracks n c.limits rows past → Held a c.limits rows past (moments_of c s ws rows free)

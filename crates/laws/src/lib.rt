@@ -19,7 +19,7 @@ fn units(settings: &Settings) -> usize
 // Every run of a new control over these settings and this book is lawful. The answer is how many units
 // the laws speak of.
 pub fn laws_stand<B: Book>(settings: &Settings, book: &B) -> usize
-    ensures lawful { EveryRunLawful (setup answer limit (agreed settings.now) book.now) }
+    ensures lawful { EveryRunLawful (setup B.answer B.limit (agreed settings.now) book.now) }
     ensures count { result ≡ length (agreed settings.now).numbers }
 {
     units(settings)

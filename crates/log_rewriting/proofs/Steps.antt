@@ -123,7 +123,7 @@ module _ (file os : List ℕ) (log : ClosedLog) (read : Ok (closed_frames log) �
 
     -- Log o holds its frames, nothing is written behind them, and r is o, closed.
     module _ (o : OpenLog) (r : ClosedLog) (frames : open_frames o ≡ closed_frames log) (same_size : length (open_octets o) ≡ length os) (behind : drop (17 * length (open_frames o)) (open_octets o) ≡ drop (17 * length (open_frames o)) os)
-        (closed-frames : closed_frames r ≡ open_frames o) (closed_in : closed_in r ≡ closing (length (open_frames o)) (open_octets o)) (closed-log : closed_octets r ≡ log_in (length (open_octets o)) (open_frames o)) where
+        (closed-frames : closed_frames r ≡ open_frames o) (closed-in : closed_in r ≡ closing (length (open_frames o)) (open_octets o)) (closed-log : closed_octets r ≡ log_in (length (open_octets o)) (open_frames o)) where
       eight : leb 8 (length (open_octets o)) ≡ true
       eight = le-leb 8 _ (omega (arith, long, same_size))
 
@@ -147,7 +147,7 @@ module _ (file os : List ℕ) (log : ClosedLog) (read : Ok (closed_frames log) �
           let m : length (closed_octets r) ≡ 17 * n + 8 = ap length same_octets ∙ size ∙ ap (λ fs. 17 * length fs + 8) (sym frames) in
           let rest : drop (17 * n + 8) (open_octets o) ≡ drop (length (closed_octets r)) os =
           sym (drop-drop 8 (17 * n) (open_octets o)) ∙ ap (drop 8) behind ∙ drop-drop 8 (17 * n) os ∙ ap (λ k. drop k os) (sym m) in
-          closed_in ∙ ap (λ b. cond b (overwritten (17 * n) (trailer_of n) (open_octets o)) (open_octets o)) eight
+          closed-in ∙ ap (λ b. cond b (overwritten (17 * n) (trailer_of n) (open_octets o)) (open_octets o)) eight
           ∙ ap (λ x. x ++ (trailer_of n ++ drop (17 * n + 8) (open_octets o))) front
           ∙ sym (append_assoc (flat_map entry_of (open_frames o)) (trailer_of n) (drop (17 * n + 8) (open_octets o)))
           ∙ ap (λ x. x ++ drop (17 * n + 8) (open_octets o)) (sym written) ∙ ap (λ x. closed_octets r ++ x) rest
