@@ -1,10 +1,10 @@
 -- A text taken in octet by octet.
-use Rattle.std.proofs.Common.{◌≡◌, ℕ, zero, suc, ◌+◌, ◌-◌, ◌<◌, ◌≤◌, Bool, true, false, cond, eqb, leb, List, [], ◌∷◌, ◌++◌, map, length, take, is_ok, Some, None, Option, Result, sym, refl, ap, ◌∙◌, subst, append_assoc, append-nil, arith, length-append, length-take, ne_eqb, le-leb, leb-false, leb-true}
+use Rattle.std.proofs.Common.{◌≡◌, ℕ, zero, suc, ◌<◌, Bool, true, false, cond, eqb, leb, List, [], ◌∷◌, ◌++◌, map, length, take, is_ok, Some, None, Result, sym, refl, ap, ◌∙◌, arith, length-take, ne_eqb, leb-false, leb-true}
 use borrow.Author.Tests.{lt-leb}
 use Rattle.std.proofs.lemmas.List.{take_all}
 use Rattle.line.specs.Waiting.{verdict}
 use Rattle.line.specs.declared.Full.{Full}
-use Rattle.script.specs.Grammar.{Said, reading}
+use Rattle.script.specs.Grammar.{reading}
 use Rattle.intake.specs.Lines.{AsTheyRead, keep, told, left, last_told, ended, unended}
 
 -- an octet more at the end of a text

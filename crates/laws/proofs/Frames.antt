@@ -1,12 +1,10 @@
 -- The frames that the control sends, read.
-use Rattle.std.proofs.Common.{◌≡◌, ℕ, zero, suc, ◌+◌, ◌/◌, ◌%◌, ◌<◌, ◌≤◌, cond, eqb, List, [], ◌∷◌, ◌++◌, get_or, Ok, Err, Result, sym, refl, ap, ◌∙◌, subst, append-nil, arith}
+use Rattle.std.proofs.Common.{◌≡◌, ℕ, zero, suc, ◌/◌, ◌%◌, ◌<◌, cond, eqb, List, [], ◌∷◌, get_or, Ok, Err, Result, refl, ap, ◌∙◌, append-nil, arith}
 use Rattle.std.specs.Int.Digits.{number_from_digits}
 use Rattle.vocabulary.specs.Settings.{Agreed}
 use Rattle.vocabulary.specs.declared.fault.Fault.{Fault}
 use Rattle.vocabulary.specs.declared.level.Level.{Level}
 use Rattle.vocabulary.specs.declared.level.Level.TheVariants.{Zero, Ntc, One, Two, Three}
-use Rattle.vocabulary.specs.declared.mode.Mode.{Mode}
-use Rattle.vocabulary.specs.declared.order.Order.{Order}
 use Rattle.vocabulary.specs.declared.order.Order.TheVariants.{ToConfiguration, ToDataEntry, ToColdStandby, ToColdStandbyConditionally, ToHotStandby, ToDataAvailable}
 use Rattle.vocabulary.specs.Levels.{level_number, mode_number}
 use Rattle.bits.specs.Bits.{field}
@@ -16,7 +14,7 @@ use Rattle.wire.specs.Packets as wire
 use Rattle.steps.specs.Puts.{Put, reply, failure, ordered, takes, packet_of, frame_of, minor_for}
 use Rattle.steps.specs.Puts as puts
 use Rattle.steps.specs.declared.surroundings.Surroundings.{Surroundings}
-use Rattle.laws.specs.Events.{Event, just, took, took_failure, orders_by, orders_among, orders_for, orders_read, is_order}
+use Rattle.laws.specs.Events.{Event, just, took, took_failure, orders_by, orders_for, orders_read, is_order}
 
 -- a frame to the unit n that reads as one packet, with these orders in it, so many of them not Failure orders
 pub record Read (trip n : ℕ) (f : List ℕ) (es : List Event) (k : ℕ) : Type 0 where

@@ -1,5 +1,5 @@
 -- Moments one behind the other.
-use Rattle.std.proofs.Common.{◌≡◌, ℕ, zero, suc, ◌+◌, ◌-◌, ◌<◌, ◌≤◌, Bool, true, false, cond, not, leb, ◌↔◌, List, [], ◌∷◌, ◌++◌, map, length, get_or, drop, replicate, Some, None, Ok, Err, Option, Result, sym, refl, ap, ◌∙◌, subst, append_assoc, append-nil, arith, length-append}
+use Rattle.std.proofs.Common.{◌≡◌, ℕ, zero, suc, ◌+◌, ◌-◌, ◌<◌, ◌≤◌, Bool, true, false, cond, leb, List, [], ◌∷◌, ◌++◌, map, length, drop, replicate, Some, None, Ok, Err, Option, Result, sym, refl, ap, ◌∙◌, subst, append_assoc, append-nil, arith, length-append}
 use Rattle.std.specs.List.{AllByRecursion as All}
 use Rattle.std.proofs.ByRecursion.{All-append}
 use Rattle.vocabulary.specs.Levels.{level_number, levels, mode_number, modes}
@@ -14,16 +14,16 @@ use Rattle.vocabulary.specs.declared.mode.Mode.{Mode}
 use Rattle.vocabulary.specs.declared.order.Order.{Order}
 use Rattle.wire.specs.Messages.{Reading, read_message, unless}
 use Rattle.wire.specs.Packets.{Content}
-use Rattle.steps.specs.Rows.{fresh_row, is_failure}
+use Rattle.steps.specs.Rows.{is_failure}
 use Rattle.steps.specs.Setups.{Setup, number_at}
 use Rattle.steps.specs.Settling.{Settled, ended, settle}
 use Rattle.steps.specs.Calls.{Call, connect, message, lost, status, announce, train_data, tick, run, power_off, Step, connected, heard_from, lost_plainly, lost_finally, status_set, announcement_set, train_data_set, tick_passed, settled, powered_off, refused, first_of, is_unknown, connect_checks, lost_checks, message_checks, message_steps, is_national, status_steps, steps_of}
 use Rattle.steps.specs.Moments.{Moment, acted, surroundings_by, ends_settling, moment_of, moments_of}
-use Rattle.steps.specs.Exchanges.{no_counts, plus_counts, counts_in, added_in, rows_behind}
+use Rattle.steps.specs.Exchanges.{plus_counts, counts_in, added_in, rows_behind}
 use Rattle.steps.specs.declared.counts.Counts.{Counts}
 use Rattle.steps.specs.declared.row.Row.{Row}
 use Rattle.steps.specs.declared.surroundings.Surroundings.{Surroundings}
-use Rattle.laws.specs.Events.{Event, row_at, events_at, events, orders_put, happening}
+use Rattle.laws.specs.Events.{Event, row_at, events_at, events, happening}
 use Rattle.laws.specs.OpenOrders.{Open, open_from, open_order, along}
 use Rattle.laws.specs.OpenOrders as orders
 use Rattle.laws.specs.Lawful.{Alone, total, Counted, holds_failure, is_power_off, Stays, is_off, is_failure_order, failure_orders, NoOff, Reasoned, ForUnit}
@@ -32,7 +32,7 @@ use Rattle.laws.proofs.Rows.{bit, opens, Sound}
 use Rattle.laws.proofs.Whys.{Why}
 use Rattle.laws.proofs.Places.{Distinct, not_false}
 use Rattle.laws.proofs.Settles.{by_cond, puts_append, settle_places}
-use Rattle.laws.proofs.Puts.{sent_from, SentAll, Both, sent_append, sentall_append}
+use Rattle.laws.proofs.Puts.{sent_from, SentAll, sent_append, sentall_append}
 use Rattle.laws.proofs.Moments.{Valid, Good}
 use Rattle.laws.proofs.Moments
 

@@ -1,12 +1,12 @@
 -- Open orders along events, and sums.
-use Rattle.std.proofs.Common.{◌≡◌, ℕ, zero, suc, ◌+◌, ◌<◌, ◌≤◌, Bool, true, false, cond, eqb, ◌↔◌, List, [], ◌∷◌, ◌++◌, length, get_or, Some, None, sum_by, Option, refl, ap, ◌∙◌, arith}
+use Rattle.std.proofs.Common.{◌≡◌, ℕ, zero, suc, ◌+◌, ◌<◌, ◌≤◌, Bool, true, false, cond, eqb, ◌↔◌, List, [], ◌∷◌, ◌++◌, length, get_or, Some, None, sum_by, Option, refl, ap, arith}
 use lib.Dec.{eqb-zero-suc, eqb-suc-zero, eqb-suc-suc}
 use Rattle.std.proofs.lemmas.List.Sums.{sum_by-cons}
 use Rattle.vocabulary.specs.declared.cause.Cause.{Cause}
 use Rattle.vocabulary.specs.declared.order.Order.{Order}
 use Rattle.steps.specs.Rows.{is_conditional}
 use Rattle.laws.specs.Events.{Event, Happening, took, took_failure, reported, asked, noticed, greeted, parted, ticked, off, elsewhere}
-use Rattle.laws.specs.OpenOrders.{Open, is_answer, after, unless_failed, next, open_from, open_order, is_open, is_failed, taken, answered, followed, failed, voided, along, is_tick}
+use Rattle.laws.specs.OpenOrders.{Open, is_answer, after, unless_failed, next, open_from, is_open, is_failed, taken, answered, followed, failed, voided, along, is_tick}
 use Rattle.laws.specs.Lawful.{ForTime, Due, total}
 
 -- events one behind the other

@@ -1,10 +1,9 @@
 -- One smallest step: every row and the events of its unit.
-use Rattle.std.proofs.Common.{◌≡◌, ℕ, zero, suc, ◌+◌, ◌-◌, ◌<◌, ◌≤◌, Bool, true, false, cond, ◌||◌, eqb, List, [], ◌∷◌, ◌++◌, map, length, get_or, set, replicate, Some, None, sum_by, count_by, Option, sym, refl, ap, ◌∙◌, subst, arith}
+use Rattle.std.proofs.Common.{◌≡◌, ℕ, ◌+◌, ◌<◌, ◌≤◌, Bool, true, false, cond, ◌||◌, eqb, List, [], ◌∷◌, length, get_or, set, Some, None, sum_by, count_by, Option, sym, refl, ap, ◌∙◌, subst, arith}
 use Rattle.std.specs.List.{AllByRecursion as All}
 use Rattle.std.proofs.lemmas.List.{get_or-set_same, get_or-set_other, length-set, length-map, length-replicate, get_or-replicate, get_or-map}
 use Rattle.vocabulary.specs.Rules.{among}
 use Rattle.vocabulary.specs.States.{target_of}
-use Rattle.vocabulary.specs.declared.cause.Cause.{Cause}
 use Rattle.vocabulary.specs.declared.link.Link.TheVariants as link
 use Rattle.vocabulary.specs.declared.order.Order.{Order}
 use Rattle.vocabulary.specs.declared.order.Order.TheVariants.{ToConfiguration, ToDataEntry, ToColdStandby, ToColdStandbyConditionally, ToHotStandby, ToDataAvailable}
@@ -13,7 +12,7 @@ use Rattle.vocabulary.specs.declared.state.State.TheVariants.{HotStandby, DataAv
 use Rattle.vocabulary.specs.declared.versions.Versions.{Versions}
 use Rattle.book.specs.declared.view.View.{View}
 use Rattle.wire.specs.Packets.{Content, version, status, request, order, report, notice, other}
-use Rattle.steps.specs.Rows.{fresh_row, is_failure, same_state, at_state, some_at, open_count, with_link, with_due}
+use Rattle.steps.specs.Rows.{fresh_row, is_failure, same_state, at_state, some_at, open_count, with_link}
 use Rattle.steps.specs.Failing.{lost_by}
 use Rattle.steps.specs.Packets.{heard, answered_in, lost_in}
 use Rattle.steps.specs.Ticks.{lost_by_tick}
@@ -25,19 +24,17 @@ use Rattle.steps.specs.Settling.{Settled, ended, settle}
 use Rattle.steps.specs.Calls.{Step, connected, heard_from, lost_plainly, lost_finally, status_set, announcement_set, train_data_set, tick_passed, settled, powered_off}
 use Rattle.steps.specs.Moments.{dropped, is_changed, marked, acted, surroundings_by, acted_answered, acted_failed, acted_voided, ends_settling, settled_by, moment_of, Moment}
 use Rattle.steps.specs.Moments as steps
-use Rattle.steps.specs.declared.counts.Counts.{Counts}
 use Rattle.steps.specs.declared.row.Row.{Row}
 use Rattle.steps.specs.declared.surroundings.Surroundings.{Surroundings}
-use Rattle.laws.specs.Events.{Event, Happening, took, took_failure, reported, asked, noticed, greeted, parted, ticked, off, elsewhere, said_by, happening, fell, row_at, events_at, orders_in, orders_put}
+use Rattle.laws.specs.Events.{Event, Happening, parted, ticked, off, elsewhere, said_by, happening, fell, row_at, events_at, orders_in, orders_put}
 use Rattle.laws.specs.OpenOrders.{Open, open_order, along}
 use Rattle.laws.specs.OpenOrders as orders
-use Rattle.laws.specs.Reasons.{Reason}
-use Rattle.laws.specs.Lawful.{ForTime, Alone, total, Counted, holds_failure, is_power_off, is_off, is_failure_order, ForUnit}
+use Rattle.laws.specs.Lawful.{Alone, total, Counted, holds_failure, is_power_off, is_off, is_failure_order, ForUnit}
 use Rattle.laws.proofs.Lists.{total_same, total_none, total_list, total_le, total_at}
-use Rattle.laws.proofs.Rows.{bit, opens, Sound, Kept, Top, kept_elsewhere, kept_heard, kept_ticked, kept_parted, kept_relinked, kept_marked, kept_off, quiet_elsewhere}
+use Rattle.laws.proofs.Rows.{opens, Sound, Kept, Top, kept_elsewhere, kept_heard, kept_ticked, kept_parted, kept_relinked, kept_marked, kept_off, quiet_elsewhere}
 use Rattle.laws.proofs.Whys.{Why, why_kept, why_heard, why_parted, why_ticked, why_off}
-use Rattle.laws.proofs.Places.{Distinct, same_num, apart, Placed, placed, same_place}
-use Rattle.laws.proofs.Settles.{by_cond, events_of, Fits, Puts, nothing, settle_puts, settle_places, each_at, each_length, fit_at, read_at, put_each, for_units_lem, takes_each, follows_each}
+use Rattle.laws.proofs.Places.{Distinct, same_num, apart, placed, same_place}
+use Rattle.laws.proofs.Settles.{by_cond, events_of, Puts, nothing, settle_puts, settle_places, each_at, each_length, fit_at, read_at, put_each, for_units_lem, takes_each, follows_each}
 use Rattle.laws.proofs.Puts.{Both, both, ev, took_held, fell_took, here, settle_few}
 
 -- a step of a unit of the settings

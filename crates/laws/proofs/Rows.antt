@@ -1,5 +1,5 @@
 -- One row and the events of its unit, step by step.
-use Rattle.std.proofs.Common.{◌≡◌, ℕ, zero, suc, ◌+◌, ◌<◌, ◌≤◌, Bool, true, false, cond, ◌&&◌, ◌||◌, eqb, ltb, leb, ◌↔◌, Some, None, Option, sym, refl, ap, ◌∙◌, subst, arith}
+use Rattle.std.proofs.Common.{◌≡◌, ℕ, ◌+◌, ◌<◌, ◌≤◌, Bool, true, false, cond, ◌&&◌, ◌||◌, eqb, ◌↔◌, Some, None, Option, sym, refl, ap, ◌∙◌, subst, arith}
 use Rattle.std.proofs.lemmas.Bool.Decides.{nat_tests}
 use Rattle.vocabulary.specs.Causes.{cause_number}
 use Rattle.vocabulary.specs.States.{state_number, target_of}
@@ -15,8 +15,8 @@ use Rattle.vocabulary.specs.declared.versions.Versions.{Versions}
 use Rattle.wire.specs.Packets.{Content, version, status, request, order, report, notice, other}
 use Rattle.steps.specs.Rows.{fresh_row, same_state, is_failure, is_checked, is_conditional, order_in, open_count, aims_at, at_state, with_link, with_open, with_due}
 use Rattle.steps.specs.Failing.{is_ordered, down, failed_by, lost_by}
-use Rattle.steps.specs.Reports.{Report, sort_report, report_in, target_or, moved_to, report_by, answered_by, lost_by_report}
-use Rattle.steps.specs.Requests.{Request, allowed, may_ask, sort_request, request_in, request_by, lost_by_request}
+use Rattle.steps.specs.Reports.{sort_report, target_or, moved_to, report_by, answered_by, lost_by_report}
+use Rattle.steps.specs.Requests.{allowed, may_ask, sort_request, request_by, lost_by_request}
 use Rattle.steps.specs.Packets.{is_spoken, heard, answered_in, lost_in}
 use Rattle.steps.specs.Packets as packets
 use Rattle.steps.specs.Ticks.{time_cause, is_late, older, ticked_with, lost_by_tick_with, lost_by_tick}
@@ -24,8 +24,8 @@ use Rattle.steps.specs.Ticks as ticks
 use Rattle.steps.specs.Moments as moments
 use Rattle.steps.specs.declared.row.OpenOrder.{OpenOrder}
 use Rattle.steps.specs.declared.row.Row.{Row}
-use Rattle.laws.specs.Events.{Event, Happening, just, took, took_failure, reported, asked, noticed, greeted, parted, ticked, off, elsewhere, said_by, fell}
-use Rattle.laws.specs.OpenOrders.{Open, is_answer, after, unless_failed, next, is_open, is_tick, answers_it, is_taken, is_answered, is_followed, is_voided, is_failed}
+use Rattle.laws.specs.Events.{Happening, reported, asked, noticed, greeted, parted, ticked, off, elsewhere, said_by, fell}
+use Rattle.laws.specs.OpenOrders.{Open, after, unless_failed, is_open, is_tick, answers_it, is_taken, is_answered, is_followed, is_voided, is_failed}
 use Rattle.laws.specs.Lawful.{ForTime, Due, is_off}
 
 abbrev pub bit : Bool → ℕ

@@ -1,5 +1,5 @@
 -- Whole histories.
-use Rattle.std.proofs.Common.{◌≡◌, ℕ, zero, suc, ◌+◌, ◌-◌, ◌<◌, ◌≤◌, Bool, true, false, cond, ◌↔◌, List, [], ◌∷◌, ◌++◌, length, get_or, replicate, Some, None, Ok, Err, sum_by, Option, Result, sym, refl, ap, ◌∙◌, subst, append_assoc, append-nil, arith}
+use Rattle.std.proofs.Common.{◌≡◌, ℕ, zero, suc, ◌+◌, ◌-◌, ◌<◌, ◌≤◌, Bool, true, false, List, [], ◌∷◌, ◌++◌, length, replicate, Some, None, Ok, Err, sum_by, Option, Result, sym, refl, ap, ◌∙◌, subst, append_assoc, append-nil, arith}
 use mathlib.Core.Path.{fun_ext}
 use Rattle.std.specs.List.{AllByRecursion as All}
 use Rattle.std.proofs.ByRecursion.{All-append}
@@ -17,7 +17,7 @@ use Rattle.steps.specs.Rows.{fresh_row, is_failure, order_in}
 use Rattle.steps.specs.Setups.{Setup, setup, fresh_rows, fresh_surroundings}
 use Rattle.steps.specs.Calls.{Call, Step, steps_of}
 use Rattle.steps.specs.Moments.{Moment, surroundings_by, moment_of, moments_of}
-use Rattle.steps.specs.Exchanges.{Exchange, exchange, exchange_by, no_counts, counts_in, added_in, rows_behind, Leads, FromFresh}
+use Rattle.steps.specs.Exchanges.{Exchange, exchange, exchange_by, counts_in, rows_behind, Leads, FromFresh}
 use Rattle.steps.specs.declared.counts.Counts.{Counts}
 use Rattle.steps.specs.declared.row.OpenOrder.{OpenOrder}
 use Rattle.steps.specs.declared.row.Row.{Row}
@@ -25,7 +25,7 @@ use Rattle.steps.specs.declared.surroundings.Surroundings.{Surroundings}
 use Rattle.laws.specs.Events.{Event, row_at, events, events_over, orders_put}
 use Rattle.laws.specs.OpenOrders.{Open, Waits, open_from, open_order, along, is_open}
 use Rattle.laws.specs.OpenOrders as orders
-use Rattle.laws.specs.Lawful.{moments_in, rows_after, steps_in, Granted, Told, Alone, ForTime, Due, total, sum_over, counts_of, Counted, holds_failure, Stays, failure_orders, NoOff, Reasoned, ForUnit, Lawful, EveryRunLawful}
+use Rattle.laws.specs.Lawful.{moments_in, rows_after, steps_in, Granted, Told, Alone, Due, total, sum_over, counts_of, Counted, holds_failure, Stays, Reasoned, ForUnit, EveryRunLawful}
 use Rattle.laws.proofs.Lists.{Timely, open_append, timely_append, timely_at, total_same, total_none, each_once}
 use Rattle.laws.proofs.Waiting.{waits}
 use Rattle.laws.proofs.Rows.{bit, opens, Sound}

@@ -1,5 +1,5 @@
 -- The settling, as the list of what each row put.
-use Rattle.std.proofs.Common.{◌≡◌, ℕ, zero, suc, ◌+◌, ◌-◌, ◌<◌, ◌≤◌, Bool, true, false, cond, eqb, ltb, List, [], ◌∷◌, ◌++◌, length, get_or, take, Some, None, Option, sym, refl, ap, ◌∙◌, subst, append_assoc, append-nil, arith, length-append, length-take-le}
+use Rattle.std.proofs.Common.{◌≡◌, ℕ, zero, suc, ◌+◌, ◌-◌, ◌<◌, ◌≤◌, Bool, true, false, cond, eqb, ltb, List, [], ◌∷◌, ◌++◌, length, get_or, take, Some, None, Option, sym, refl, ap, ◌∙◌, append_assoc, append-nil, arith, length-append, length-take-le}
 use Rattle.std.proofs.lemmas.Bool.Decides.{nat_tests}
 use Rattle.std.proofs.lemmas.List.{length_push}
 use Rattle.std.proofs.ByRecursion.{All-append}
@@ -16,10 +16,10 @@ use Rattle.steps.specs.Puts as puts
 use Rattle.steps.specs.Settling.{wanted_at, Settled, ended, settled_row, settle}
 use Rattle.steps.specs.declared.row.Row.{Row}
 use Rattle.steps.specs.declared.surroundings.Surroundings.{Surroundings}
-use Rattle.laws.specs.Events.{Event, orders_for, orders_in, orders_read, orders_put}
+use Rattle.laws.specs.Events.{Event, orders_for, orders_in, orders_put}
 use Rattle.laws.specs.Lawful.{ForUnit}
 use Rattle.laws.proofs.Places.{Distinct, eq_yes, eq_no, among_at}
-use Rattle.laws.proofs.Frames.{Read, put_events, read_put, read_orders, read_count}
+use Rattle.laws.proofs.Frames.{put_events, read_put, read_orders, read_count}
 
 pub by_cond : {A : Type 0} (P : A → Type 0) (b : Bool) (x y : A) → (b ≡ true → P x) → (b ≡ false → P y) → P (cond b x y)
 by_cond P true x y p q = p refl

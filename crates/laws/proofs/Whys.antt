@@ -1,18 +1,16 @@
 -- Why a row fails, step by step.
-use Rattle.std.proofs.Common.{◌≡◌, ℕ, zero, suc, ◌+◌, ◌<◌, ◌≤◌, Bool, true, false, cond, ◌&&◌, ◌||◌, eqb, leb, ◌⊎◌, ◌↔◌, is_some, Some, None, Option, sym, refl, ap, ◌∙◌, subst, inl, inr, arith}
+use Rattle.std.proofs.Common.{◌≡◌, ℕ, ◌<◌, ◌≤◌, Bool, true, false, cond, ◌&&◌, ◌||◌, eqb, leb, ◌⊎◌, ◌↔◌, is_some, Some, None, Option, sym, refl, ap, ◌∙◌, subst, inl, inr, arith}
 use Rattle.std.proofs.lemmas.Bool.Decides.{nat_tests}
-use Rattle.vocabulary.specs.Rules.{minor_of}
 use Rattle.vocabulary.specs.States.{state_number, target_of}
 use Rattle.vocabulary.specs.declared.cause.Cause.{Cause}
 use Rattle.vocabulary.specs.declared.cause.Cause.TheVariants as cause
 use Rattle.vocabulary.specs.declared.link.Link.TheVariants as link
 use Rattle.vocabulary.specs.declared.order.Order.{Order}
-use Rattle.vocabulary.specs.declared.order.Order.TheVariants.{ToConfiguration, ToDataEntry, ToColdStandby, ToColdStandbyConditionally, ToHotStandby, ToDataAvailable}
 use Rattle.vocabulary.specs.declared.state.State.{State}
 use Rattle.vocabulary.specs.declared.state.State.TheVariants.{NoPower, PowerOn, Configuration, DataEntry, ColdStandby, HotStandby, DataAvailable, Failure}
 use Rattle.vocabulary.specs.declared.versions.Versions.{Versions}
 use Rattle.wire.specs.Packets.{Content, version, status, request, order, report, notice, other}
-use Rattle.steps.specs.Rows.{fresh_row, is_failure, is_checked, order_in, aims_at, with_link, with_open, with_due}
+use Rattle.steps.specs.Rows.{fresh_row, is_failure, order_in, aims_at, with_link, with_open, with_due}
 use Rattle.steps.specs.Failing.{down, failed_by}
 use Rattle.steps.specs.Reports.{sort_report, target_or, moved_to, report_by}
 use Rattle.steps.specs.Requests.{allowed, may_ask, sort_request, request_by}
@@ -23,11 +21,11 @@ use Rattle.steps.specs.Ticks as ticks
 use Rattle.steps.specs.Moments as moments
 use Rattle.steps.specs.declared.row.OpenOrder.{OpenOrder}
 use Rattle.steps.specs.declared.row.Row.{Row}
-use Rattle.laws.specs.Events.{Happening, took, took_failure, reported, asked, noticed, greeted, parted, ticked, off, elsewhere, said_by, fell}
-use Rattle.laws.specs.Reasons.{IsTarget, Uncalled, MayAsk, Barred, Foreign, Reason}
+use Rattle.laws.specs.Events.{Happening, reported, asked, noticed, greeted, parted, ticked, off, elsewhere, said_by, fell}
+use Rattle.laws.specs.Reasons.{IsTarget, Uncalled, MayAsk, Foreign, Reason}
 use Rattle.laws.specs.Lawful.{ForTime}
 use Rattle.laws.proofs.Rows.{fell_same, fell_up, fell_kept, fell_down, target_or_up, by_time}
-use Rattle.laws.proofs.Places.{same_num, eq_yes, apart}
+use Rattle.laws.proofs.Places.{same_num, apart}
 
 -- of each cause that is not for time: the row fails by it exactly if it has not failed yet and there is the reason
 abbrev pub Why : Versions → Row → Row → Happening → Type 0

@@ -1,5 +1,5 @@
 -- The laws of a history.
-use Rattle.std.specs.Prelude.{◌≡◌, ℕ, zero, suc, ◌+◌, ◌<◌, ◌≤◌, Bool, true, false, cond, ◌↔◌, List, [], ◌∷◌, ◌++◌, length, Some, None, Ok, Err, count_by, Option, Result}
+use Rattle.std.specs.Prelude.{◌≡◌, ℕ, zero, suc, ◌+◌, ◌<◌, ◌≤◌, Bool, true, false, ◌↔◌, List, [], ◌∷◌, ◌++◌, length, Some, None, Ok, Err, count_by, Option, Result}
 use Rattle.std.specs.List.{AllByRecursion as All}
 use Rattle.vocabulary.specs.Causes.{cause_number}
 use Rattle.vocabulary.specs.Rules.{among}
@@ -11,7 +11,7 @@ use Rattle.vocabulary.specs.declared.state.State.TheVariants.{HotStandby, DataAv
 use Rattle.wire.specs.Messages.{Reading, read_message}
 use Rattle.steps.specs.Rows.{is_failure, order_in, at_state}
 use Rattle.steps.specs.Setups.{Setup, number_at, fresh_rows}
-use Rattle.steps.specs.Calls.{Call, Step, steps_of, connected, heard_from, lost_plainly, lost_finally, status_set, announcement_set, train_data_set, tick_passed, settled, powered_off}
+use Rattle.steps.specs.Calls.{Step, steps_of, connected, heard_from, lost_plainly, lost_finally, status_set, announcement_set, train_data_set, tick_passed, settled, powered_off}
 use Rattle.steps.specs.Moments.{Moment}
 use Rattle.steps.specs.Exchanges.{Exchange, no_counts, added_in, rows_behind, FromFresh}
 use Rattle.steps.specs.declared.counts.Counts.{Counts}

@@ -1,14 +1,13 @@
 -- Trailers, and the two laws of a log.
-use Rattle.std.proofs.Common.{◌≡◌, ℕ, zero, suc, ◌+◌, ◌-◌, ◌*◌, ◌/◌, ◌%◌, ◌<◌, ◌≤◌, min, Bool, true, false, cond, ◌&&◌, eqb, leb, List, [], ◌∷◌, ◌++◌, map, length, get_or, take, drop, Some, None, Ok, Err, Option, Result, sym, refl, ap, ◌∙◌, subst, append_assoc, arith, length-append, length-drop}
+use Rattle.std.proofs.Common.{◌≡◌, ℕ, ◌+◌, ◌-◌, ◌*◌, ◌/◌, ◌%◌, ◌<◌, ◌≤◌, true, cond, eqb, leb, List, [], ◌∷◌, ◌++◌, map, length, get_or, take, drop, Ok, Err, sym, refl, ap, ◌∙◌, subst, append_assoc, arith, length-append, length-drop}
 use Rattle.std.specs.List.{flat_map}
 use Rattle.std.specs.Str.{bytes_eq}
 use Rattle.std.proofs.lemmas.Slice.Eq.{bytes_eq-Decides}
 use Rattle.std.proofs.lemmas.List.{drop_at, drop-drop, get_or-drop, length-map, take-append-drop}
-use Rattle.std.proofs.lemmas.Bool.{and_parts, eq-eqb, eqb-true, le-leb, leb-true}
-use Rattle.vocabulary.specs.declared.fault.Fault.{Fault}
+use Rattle.std.proofs.lemmas.Bool.{eq-eqb, eqb-true, le-leb}
 use Rattle.log_format.specs.Format.{entry_of, log_of, mark, trailer_of, two_octets}
-use Rattle.log_format.specs.Reading.{count_in, distance_in, entries_in, frame_in, frames_in, is_trailer, no_log, number_at, or_wrong, read_before, read_entries, read_log, wrong_from}
-use Rattle.log_format.proofs.Entries.{AllEntries, AllFrames, all_right, entries_joined, entries_right, four, frames_entries, joined_entries, length_entries, length_joined, wrong_none}
+use Rattle.log_format.specs.Reading.{count_in, distance_in, entries_in, frame_in, frames_in, is_trailer, no_log, or_wrong, read_before, read_entries, read_log}
+use Rattle.log_format.proofs.Entries.{AllEntries, AllFrames, entries_joined, entries_right, four, frames_entries, joined_entries, length_entries, length_joined, wrong_none}
 
 count_written : (n : ℕ) → count_in (trailer_of n) ≡ n
 count_written n = omega arith

@@ -3,7 +3,6 @@ use Rattle.std.specs.Prelude.{◌≡◌, ℕ, ◌+◌, ◌-◌, ◌*◌, cond, L
 use Rattle.vocabulary.specs.declared.fault.Fault.{Fault}
 use Rattle.carrier.specs.Frames.{full_fault}
 use Rattle.log_format.specs.Closed.{closed_in, closed_octets}
-use Rattle.log_format.specs.Reading.{read_log}
 use Rattle.log_format.specs.declared.closed.ClosedLog.{ClosedLog}
 
 -- Frames that are written into so many octets: granted exactly where the log of them has room.

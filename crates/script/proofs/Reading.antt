@@ -1,9 +1,8 @@
 -- A text read character by character.
-use Rattle.std.proofs.Common.{◌≡◌, ℕ, zero, suc, ◌+◌, ◌-◌, ◌<◌, ◌≤◌, Bool, true, false, cond, eqb, leb, List, [], ◌∷◌, ◌++◌, length, get_or, take, drop, set, Some, None, Option, sym, refl, ap, ◌∙◌, subst, append_assoc, append-nil, arith, length-append, length-take}
-use native.Mathlib.Nat.{sub-zero}
+use Rattle.std.proofs.Common.{◌≡◌, ℕ, zero, suc, ◌+◌, ◌-◌, ◌<◌, ◌≤◌, true, false, cond, eqb, leb, List, [], ◌∷◌, ◌++◌, length, get_or, take, drop, set, Some, None, Option, sym, refl, ap, ◌∙◌, append_assoc, append-nil, arith, length-append, length-take}
 use Rattle.std.specs.Option.{option_map}
-use Rattle.std.proofs.lemmas.List.{at_drop_more, at_drop_all, take_more, take_more_set, take_rest, take_all}
-use Rattle.script.specs.Text.{first_part, other_parts, add_digit, add_digits, number, octet, octets}
+use Rattle.std.proofs.lemmas.List.{at_drop_more, at_drop_all, take_more_set, take_rest, take_all}
+use Rattle.script.specs.Text.{first_part, other_parts, add_digits, number, octet, octets}
 use Rattle.std.proofs.lemmas.Bool.Decides.{nat_tests}
 use Rattle.vocabulary.specs.Octets.{sized}
 use Rattle.script.specs.Grammar.{onto, sized_octets, numbers, call, called, reading}

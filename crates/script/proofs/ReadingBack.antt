@@ -1,15 +1,14 @@
 -- What is printed is read as itself.
-use Rattle.std.proofs.Common.{◌≡◌, ℕ, ◌+◌, ◌-◌, ◌*◌, ◌/◌, ◌%◌, ◌^◌, ◌<◌, ◌≤◌, Bool, true, false, cond, ◌&&◌, eqb, ltb, leb, List, [], ◌∷◌, ◌++◌, map, length, take, Some, None, codes, decimal, Option, sym, refl, ap, ◌∙◌, subst, append_assoc, append-nil, arith, length-append, ne_eqb, le-leb}
-use Rattle.std.specs.List.{flat_map}
+use Rattle.std.proofs.Common.{◌≡◌, ℕ, ◌+◌, ◌-◌, ◌*◌, ◌/◌, ◌%◌, ◌<◌, ◌≤◌, true, false, cond, eqb, ltb, leb, List, [], ◌∷◌, ◌++◌, map, length, take, Some, None, decimal, Option, refl, ap, ◌∙◌, subst, append-nil, arith, length-append, ne_eqb, le-leb}
 use Rattle.std.specs.Option.{option_map}
 use Rattle.std.proofs.lemmas.Fmt.{decimal_by_steps, length-decimal-le}
 use Rattle.std.proofs.lemmas.List.{take_all}
 use Rattle.std.proofs.lemmas.Bool.Decides.{nat_tests}
-use Rattle.vocabulary.specs.Hex.{hex, hex_digit, octet_text}
+use Rattle.vocabulary.specs.Hex.{hex, hex_digit}
 use Rattle.vocabulary.specs.Octets.{sized}
 use Rattle.script.specs.Text.{first_part, other_parts, add_digit, add_digits, number, hex_value, octet, octets}
-use Rattle.script.specs.Grammar.{Said, anew, connected, lost, lost_for_good, came, status, announced, train_data, ticks, power_off, onto, numbers, three, called, call, reading}
-use Rattle.script.specs.Printed.{printed, spaced, spaced_number, EachBelow, Sayable, ReadsBack}
+use Rattle.script.specs.Grammar.{anew, connected, lost, lost_for_good, came, status, announced, train_data, ticks, power_off, onto, numbers, three, call, reading}
+use Rattle.script.specs.Printed.{printed, spaced, EachBelow, ReadsBack}
 
 -- no blank stands in a text
 NoBlank : List ℕ → Type 0

@@ -1,5 +1,5 @@
 -- The nine calls: what each is refused for, and what it comes to.
-use Rattle.std.specs.Prelude.{ℕ, Bool, true, false, cond, not, ◌&&◌, ◌||◌, List, [], ◌∷◌, ◌++◌, map, replicate, is_some, Some, None, Ok, Err, Option, Result, ◌==◌, nat_le}
+use Rattle.std.specs.Prelude.{ℕ, Bool, true, false, cond, not, ◌&&◌, ◌||◌, List, [], ◌∷◌, ◌++◌, map, replicate, Some, None, Ok, Err, Option, Result, ◌==◌, nat_le}
 use Rattle.vocabulary.specs.Levels.{level_number, levels, mode_number, modes}
 use Rattle.vocabulary.specs.Numbers.{case_of}
 use Rattle.vocabulary.specs.Refusals.{fault_at}

@@ -1,7 +1,6 @@
 -- Worked cases, with 200 for the number of a trip notice.
-use Rattle.std.specs.Prelude.{◌≡◌, ℕ, true, false, List, [], ◌∷◌, ◌++◌, map, length, replicate, Some, None, Ok, Err, Option, Result, refl}
+use Rattle.std.specs.Prelude.{◌≡◌, ℕ, true, List, [], ◌∷◌, ◌++◌, map, replicate, Some, None, Ok, Err, Option, Result, refl}
 use Rattle.std.specs.List.{AllByRecursion as All}
-use Rattle.vocabulary.specs.Settings.{Agreed}
 use Rattle.vocabulary.specs.declared.cause.Cause.{Cause}
 use Rattle.vocabulary.specs.declared.cause.Cause.TheVariants.{TimeToDataAvailable}
 use Rattle.vocabulary.specs.declared.fault.Fault.{Fault}
@@ -19,7 +18,7 @@ use Rattle.writer.specs.Drafts.{Draft, message_of, started, added}
 use Rattle.steps.specs.Rows.{order_in}
 use Rattle.steps.specs.Setups.{Setup, fresh_rows, fresh_surroundings}
 use Rattle.steps.specs.Calls.{Call, connect, message, status, train_data, run}
-use Rattle.steps.specs.Exchanges.{Exchange, exchange, granted}
+use Rattle.steps.specs.Exchanges.{Exchange, exchange}
 use Rattle.steps.specs.declared.counts.Counts.{Counts}
 use Rattle.steps.specs.declared.row.Row.{Row}
 use Rattle.steps.specs.declared.surroundings.Surroundings.{Surroundings}

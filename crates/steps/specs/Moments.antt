@@ -1,5 +1,5 @@
 -- The smallest steps of a call, one by one.
-use Rattle.std.specs.Prelude.{ℕ, ◌+◌, ◌-◌, Bool, true, false, cond, not, ◌&&◌, ◌||◌, List, [], ◌∷◌, ◌++◌, map, length, replicate, None, sum_by, ◌==◌, slice_set}
+use Rattle.std.specs.Prelude.{ℕ, ◌-◌, Bool, true, false, cond, not, ◌&&◌, ◌||◌, List, [], ◌∷◌, map, length, replicate, None, sum_by, ◌==◌, slice_set}
 use Rattle.vocabulary.specs.Levels.{level_number, mode_number}
 use Rattle.vocabulary.specs.declared.cause.Cause.TheVariants as cause
 use Rattle.vocabulary.specs.declared.level.Level.{Level}

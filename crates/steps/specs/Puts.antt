@@ -1,5 +1,5 @@
 -- What a row puts into the carrier in a settling.
-use Rattle.std.specs.Prelude.{ℕ, ◌+◌, Bool, false, cond, List, [], ◌∷◌, ◌++◌, Some, None, Option}
+use Rattle.std.specs.Prelude.{ℕ, ◌+◌, false, cond, List, [], ◌∷◌, ◌++◌, Some, None, Option}
 use Rattle.vocabulary.specs.Levels.{level_number, mode_number}
 use Rattle.vocabulary.specs.Rules.{minor_of}
 use Rattle.vocabulary.specs.Settings.{Agreed}

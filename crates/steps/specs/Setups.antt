@@ -1,5 +1,5 @@
 -- What a control is made with, and what it keeps besides its rows.
-use Rattle.std.specs.Prelude.{ℕ, zero, suc, Bool, false, cond, List, [], ◌∷◌, length, replicate, Option, ◌==◌, slice_index, slice_index_or}
+use Rattle.std.specs.Prelude.{ℕ, zero, suc, false, cond, List, [], ◌∷◌, length, replicate, Option, ◌==◌, slice_index, slice_index_or}
 use Rattle.vocabulary.specs.Settings.{Agreed}
 use Rattle.vocabulary.specs.declared.level.Level.TheVariants as level
 use Rattle.vocabulary.specs.declared.mode.Mode.TheVariants as mode

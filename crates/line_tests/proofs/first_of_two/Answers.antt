@@ -1,4 +1,4 @@
-use Rattle.std.proofs.Common.{◌≡◌, [], length, set, sym, refl, ap, ◌∙◌, rules}
+use Rattle.std.proofs.Common.{◌≡◌, [], set, ap, ◌∙◌, rules}
 use Rattle.std.specs.List.{slice_get}
 use Rattle.line.specs.Waiting.{lent}
 use Rattle.line_tests.proofs.Two.{Begun, added, put_on, two_stored, two_first}

@@ -1,5 +1,5 @@
-use Rattle.std.proofs.Common.{◌≡◌, ◌*◌, ◌≤◌, ltb, ◌++◌, length, drop, Err, sym, ap, ◌∙◌, subst, arith}
-use Rattle.log_format.specs.Closed.{closed_frames, closed_octets, to_play}
+use Rattle.std.proofs.Common.{◌≡◌, ◌*◌, ltb, ◌++◌, length, drop, Err, ap, ◌∙◌, arith}
+use Rattle.log_format.specs.Closed.{closed_frames, to_play}
 use Rattle.log_writing.specs.Writing.{open_frames, open_octets}
 use Rattle.log_rewriting.proofs.Steps.{answer_again, no_room, places_enough, same_again, written_over}
 use Rattle.log_rewriting.proofs.rewrite.Goals as goal

@@ -1,4 +1,4 @@
-use Rattle.std.proofs.Common.{◌≡◌, true, false, eqb, get_or, sym, arith}
+use Rattle.std.proofs.Common.{sym, arith}
 use Rattle.script.proofs.Reading.{part_here, part_on, part_end}
 use Rattle.script.proofs.parts.part_length.Goals as goal
 

@@ -1,4 +1,4 @@
-use Rattle.std.proofs.Common.{◌≡◌, ℕ, ◌+◌, List, ◌∷◌, get_or, drop, Some, None, sym, refl, ◌∙◌}
+use Rattle.std.proofs.Common.{◌≡◌, ◌+◌, ◌∷◌, get_or, drop, Some, None, sym, ◌∙◌}
 use Rattle.script.specs.Text.{add_digit, add_digits}
 use Rattle.std.proofs.lemmas.List.{at_drop_all}
 use Rattle.script.proofs.Reading.{digits_on, number_some}

@@ -1,6 +1,6 @@
-use Rattle.std.proofs.Common.{◌≡◌, ℕ, ◌-◌, ◌≤◌, List, ◌++◌, length, get_or, take, drop, Some, None, Option, sym, refl, ap, ◌∙◌, arith, length-set, ltb-false}
+use Rattle.std.proofs.Common.{◌≡◌, ℕ, ◌-◌, List, ◌++◌, length, take, drop, Some, None, Option, sym, refl, ap, ◌∙◌, arith, length-set, ltb-false}
 use Rattle.std.specs.Option.{option_map}
-use Rattle.script.specs.Text.{octet, octets}
+use Rattle.script.specs.Text.{octets}
 use Rattle.script.proofs.Reading.{pair_on, pair_held, pair_full}
 use Rattle.script.proofs.text.read_octets.Goals as goal
 

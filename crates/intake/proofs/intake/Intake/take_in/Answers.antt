@@ -1,7 +1,5 @@
-use Rattle.std.proofs.Common.{◌≡◌, ℕ, ◌+◌, ◌<◌, List, [], ◌∷◌, ◌++◌, length, get_or, take, Option, sym, ap, ◌∙◌, subst, append_assoc, arith, length-append, ltb-false}
+use Rattle.std.proofs.Common.{◌≡◌, ℕ, ◌+◌, ◌<◌, List, [], ◌∷◌, ◌++◌, length, get_or, take, sym, ap, ◌∙◌, append_assoc, arith, length-append, ltb-false}
 use Rattle.std.proofs.lemmas.List.{take_more}
-use Rattle.line.specs.Waiting.{room}
-use Rattle.script.specs.Grammar.{Said}
 use Rattle.intake.specs.Lines.{told, left}
 use Rattle.intake.specs.Meaning.{heard, so_far}
 use Rattle.intake.proofs.Taking.{as_they_read, told_push, left_push}

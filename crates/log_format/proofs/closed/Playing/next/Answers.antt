@@ -1,11 +1,10 @@
-use Rattle.std.proofs.Common.{◌≡◌, ℕ, ◌<◌, List, [], drop, None, sym, ap, ◌∙◌, arith}
+use Rattle.std.proofs.Common.{◌≡◌, ◌<◌, [], drop, sym, ap, ◌∙◌, arith}
 use Rattle.std.specs.Option.{option_map}
 use Rattle.std.specs.List.{slice_get}
 use Rattle.vocabulary.specs.Octets.{octets_of}
 use Rattle.std.proofs.lemmas.Bool.{eqb-false, eqb-true}
 use Rattle.log_format.specs.Closed.{to_play}
 use Rattle.log_format.specs.Reading.{frames_up_to}
-use Rattle.log_format.specs.declared.closed.Playing.{Playing}
 use Rattle.log_format.proofs.Entries.{frames_first, frames_short, frames_wrong}
 use Rattle.log_format.proofs.closed.Playing.next.Goals as goal
 

@@ -1,4 +1,4 @@
-use Rattle.std.proofs.Common.{◌≡◌, ℕ, ◌+◌, ◌*◌, ◌≤◌, List, length, ap, ◌∙◌, arith}
+use Rattle.std.proofs.Common.{◌≡◌, ℕ, ◌*◌, ◌≤◌, List, length, ap, ◌∙◌}
 use Rattle.log_format.specs.Format.{trailer_of}
 use Rattle.log_writing.specs.Overwriting.{overwritten}
 use Rattle.log_writing.specs.Writing.{open_octets}

@@ -1,4 +1,4 @@
-use Rattle.std.proofs.Common.{◌≡◌, ℕ, ◌<◌, ◌≤◌, List, length, get_or, refl, ap, subst}
+use Rattle.std.proofs.Common.{◌≡◌, ◌<◌, ◌≤◌, length, get_or, refl, ap, subst}
 use Rattle.std.proofs.Output.{has_written_of_eq}
 use Rattle.vocabulary.proofs.Writing.{put_none, put_item, put_all}
 use Rattle.script.specs.Meaning.{numbers_of}

@@ -3,7 +3,6 @@ use Rattle.std.proofs.lemmas.List.{drop-set-lt}
 use Rattle.std.proofs.lemmas.Bool.{cond-false}
 use Rattle.vocabulary.specs.Settings.{trip_of}
 use Rattle.bits.specs.Bits.{field, bits_of}
-use Rattle.writer.specs.Writers.{draft}
 use Rattle.writer.proofs.DraftLaws.{finish_length, finish_buffer}
 use Rattle.writer.proofs.writer.Writer.finish.Goals as goal
 

@@ -1,4 +1,4 @@
-use Rattle.std.proofs.Common.{◌≡◌, ◌<◌, length, sym, arith}
+use Rattle.std.proofs.Common.{◌<◌, length, sym, arith}
 use Rattle.std.proofs.lemmas.Bool.{eqb-false}
 use Rattle.vocabulary.specs.Octets.{in_size, octets_of}
 use Rattle.carrier.specs.Frames.{frame_size, misfit_fault}
