@@ -1,6 +1,6 @@
 -- Moments one behind the other.
 use Rattle.std.proofs.Common.{◌≡◌, ℕ, zero, suc, ◌+◌, ◌-◌, ◌<◌, ◌≤◌, Bool, true, false, cond, leb, List, [], ◌∷◌, ◌++◌, map, length, drop, replicate, Some, None, Ok, Err, Option, Result, sym, refl, ap, ◌∙◌, subst, append_assoc, append-nil, arith, length-append}
-use Rattle.std.specs.List.{AllByRecursion as All}
+use Rattle.std.specs.List.{AllByRecursion}
 use Rattle.std.proofs.ByRecursion.{All-append}
 use Rattle.vocabulary.specs.Levels.{level_number, levels, mode_number, modes}
 use Rattle.vocabulary.specs.Numbers.{case_of}
@@ -75,10 +75,10 @@ pub record Held (a : Agreed) (lim : Order → ℕ) (rows : List Row) (past : ℕ
   pub timely : (i : ℕ) → i < length a.numbers → Timely lim (open_order (past i)) (events a i rows ms)
   pub counted : Counted (length a.numbers) a.trip past (λ i. events a i rows ms) (added_in ms) (counts_in ms)
   pub stays : (i : ℕ) → i < length a.numbers → Stays i rows ms
-  pub alone : All (λ (m : Moment). Alone m.rows) ms
+  pub alone : AllByRecursion (λ (m : Moment). Alone m.rows) ms
   pub few : (i : ℕ) → i < length a.numbers → SentAll (sent_from 0 (past i)) (events a i rows ms)
   pub reasoned : (i : ℕ) → i < length a.numbers → Reasoned a i rows ms
-  pub for_units : All (ForUnit a) (added_in ms)
+  pub for_units : AllByRecursion (ForUnit a) (added_in ms)
 
 abbrev AllValid : List ℕ → List Step → Type 0
 AllValid ns [] = Unit {0}
@@ -134,7 +134,7 @@ record First (a : Agreed) (lim : Order → ℕ) (rows : List Row) (past : ℕ �
   alone : Alone m.rows
   few : (i : ℕ) → i < length a.numbers → SentAll (sent_from 0 (past i)) (events_at a i rows m)
   reasoned : (i : ℕ) → i < length a.numbers → Why a.versions (row_at i rows) (row_at i m.rows) (happening (number_at a i) m.step)
-  for_units : All (ForUnit a) m.added
+  for_units : AllByRecursion (ForUnit a) m.added
 
 -- the first moment, and the others
 held_cons : (a : Agreed) (lim : Order → ℕ) (rows : List Row) (past : ℕ → List Event) (m : Moment) (ms : List Moment) → First a lim rows past m →

@@ -1,6 +1,6 @@
 -- One smallest step: every row and the events of its unit.
 use Rattle.std.proofs.Common.{◌≡◌, ℕ, ◌+◌, ◌<◌, ◌≤◌, Bool, true, false, cond, ◌||◌, eqb, List, [], ◌∷◌, length, get_or, set, Some, None, sum_by, count_by, Option, sym, refl, ap, ◌∙◌, subst, arith}
-use Rattle.std.specs.List.{AllByRecursion as All}
+use Rattle.std.specs.List.{AllByRecursion}
 use Rattle.std.proofs.lemmas.List.{get_or-set_same, get_or-set_other, length-set, length-map, length-replicate, get_or-replicate, get_or-map}
 use Rattle.vocabulary.specs.Rules.{among}
 use Rattle.vocabulary.specs.States.{target_of}
@@ -376,8 +376,8 @@ module _ (c : Setup) (good : Good c) (dist : Distinct c.settings.numbers) (w : S
       let y = act_why c dist s rows fit w i v h k n in
       ((λ e. y.0 (sym (fell_after i) ∙ e)), (λ e. fell_after i ∙ y.1 e))
 
-  pub for_all : All (ForUnit c.settings) (moment_of c s w rows free).added
-  for_all = subst (λ fs. All (ForUnit c.settings) fs) (sym puts_of.added) (for_units_lem c.settings (surroundings_by w s) 0 puts_of.ps (omega (arith, ps_long)))
+  pub for_all : AllByRecursion (ForUnit c.settings) (moment_of c s w rows free).added
+  for_all = subst (λ fs. AllByRecursion (ForUnit c.settings) fs) (sym puts_of.added) (for_units_lem c.settings (surroundings_by w s) 0 puts_of.ps (omega (arith, ps_long)))
 
   pub places : length (moment_of c s w rows free).added ≤ free
   places = by_cond (λ (t : Settled). length t.added ≤ free) (ends_settling w) (settle c (surroundings_by w s) [] (acted c s w rows) free) (ended (acted c s w rows))

@@ -1,7 +1,7 @@
 -- Whole histories.
 use Rattle.std.proofs.Common.{◌≡◌, ℕ, zero, suc, ◌+◌, ◌-◌, ◌<◌, ◌≤◌, Bool, true, false, List, [], ◌∷◌, ◌++◌, length, replicate, Some, None, Ok, Err, sum_by, Option, Result, sym, refl, ap, ◌∙◌, subst, append_assoc, append-nil, arith}
 use mathlib.Core.Path.{fun_ext}
-use Rattle.std.specs.List.{AllByRecursion as All}
+use Rattle.std.specs.List.{AllByRecursion}
 use Rattle.std.proofs.ByRecursion.{All-append}
 use Rattle.std.proofs.lemmas.List.{length-replicate, get_or-replicate}
 use Rattle.std.proofs.lemmas.List.Sums.{sum_by-cons}
@@ -37,9 +37,9 @@ use Rattle.laws.proofs.Histories.{Tracks, Held, held_none, moments_held, moments
 -- each exchange of a history
 abbrev AllTold : Agreed → List Row → List Exchange → Type 0
 AllTold a rows [] = Unit {0}
-AllTold a rows (x ∷ h) = (Told a rows x × All (ForUnit a) x.added) × AllTold a x.rows h
+AllTold a rows (x ∷ h) = (Told a rows x × AllByRecursion (ForUnit a) x.added) × AllTold a x.rows h
 
-told_at : (a : Agreed) (rows : List Row) (h later : List Exchange) (x : Exchange) → AllTold a rows (h ++ (x ∷ later)) → Told a (rows_after rows h) x × All (ForUnit a) x.added
+told_at : (a : Agreed) (rows : List Row) (h later : List Exchange) (x : Exchange) → AllTold a rows (h ++ (x ∷ later)) → Told a (rows_after rows h) x × AllByRecursion (ForUnit a) x.added
 told_at a rows [] later x t = t.0
 told_at a rows (y ∷ h) later x t = told_at a y.rows h later x t.1
 
@@ -53,7 +53,7 @@ record Over (a : Agreed) (lim : Order → ℕ) (rows : List Row) (past : ℕ →
   counted : AllCounted a past rows h
   told : AllTold a rows h
   stays : (i : ℕ) → i < length a.numbers → Stays i rows (moments_in h)
-  alone : All (λ (m : Moment). Alone m.rows) (moments_in h)
+  alone : AllByRecursion (λ (m : Moment). Alone m.rows) (moments_in h)
   few : (i : ℕ) → i < length a.numbers → SentAll (sent_from 0 (past i)) (events_over a i rows h)
   reasoned : (i : ℕ) → i < length a.numbers → Reasoned a i rows (moments_in h)
 
@@ -128,7 +128,7 @@ module _ (c : Setup) (good : Good c) (dist : Distinct c.settings.numbers) where
         tracks = tracks_past n c.limits (rows_after x.rows h) (λ i. (past i ++ events a i rows x.moments) ++ events_over a i x.rows h) (λ i. past i ++ (events a i rows x.moments ++ events_over a i x.rows h)) (λ i. append_assoc (past i) (events a i rows x.moments) (events_over a i x.rows h)) o.tracks;
         timely = λ i k. timely_append c.limits (open_order (past i)) (events a i rows x.moments) (events_over a i x.rows h) (he.timely i k) (subst (λ z. Timely c.limits z (events_over a i x.rows h)) (open_append None (past i) (events a i rows x.moments)) (o.timely i k));
         counted = (subst (λ k. Counted n a.trip past (λ i. events a i rows x.moments) x.added k) (sym y.counts) (subst (λ fs. Counted n a.trip past (λ i. events a i rows x.moments) fs (counts_in x.moments)) (sym to.added) he.counted), o.counted);
-        told = ((to, subst (λ fs. All (ForUnit a) fs) (sym to.added) he.for_units), o.told);
+        told = ((to, subst (λ fs. AllByRecursion (ForUnit a) fs) (sym to.added) he.for_units), o.told);
         stays = λ i k. stays_append i rows x.moments (moments_in h) (he.stays i k) (subst (λ (rs : List Row). Stays i rs (moments_in h)) to.behind (o.stays i k));
         alone = All-append (λ (m : Moment). Alone m.rows) x.moments (moments_in h) he.alone o.alone;
         few = λ i k. sentall_append (sent_from 0 (past i)) (events a i rows x.moments) (events_over a i x.rows h) (he.few i k) (subst (λ z. SentAll z (events_over a i x.rows h)) (sent_append 0 (past i) (events a i rows x.moments)) (o.few i k));
@@ -231,7 +231,7 @@ module _ (c : Setup) (good : Good c) (dist : Distinct c.settings.numbers) where
       let lim = c.limits in
       let n = length a.numbers in
       let o = from_fresh h l in
-      let to : (past later : List Exchange) (x : Exchange) → h ≡ past ++ (x ∷ later) → Told a (rows_after (fresh_rows a) past) x × All (ForUnit a) x.added = λ past later x q. told_at a (fresh_rows a) past later x (subst (λ (g : List Exchange). AllTold a (fresh_rows a) g) q o.told) in
+      let to : (past later : List Exchange) (x : Exchange) → h ≡ past ++ (x ∷ later) → Told a (rows_after (fresh_rows a) past) x × AllByRecursion (ForUnit a) x.added = λ past later x q. told_at a (fresh_rows a) past later x (subst (λ (g : List Exchange). AllTold a (fresh_rows a) g) q o.told) in
       record {
         told = λ past later x q. (to past later x q).0;
         alone = λ past later q. (front h past later l q).tracks.alone;

@@ -3,7 +3,7 @@ use Rattle.std.proofs.Common.{◌≡◌, ℕ, zero, suc, ◌+◌, ◌-◌, ◌<�
 use Rattle.std.proofs.lemmas.Bool.Decides.{nat_tests}
 use Rattle.std.proofs.lemmas.List.{length_push}
 use Rattle.std.proofs.ByRecursion.{All-append}
-use Rattle.std.specs.List.{AllByRecursion as All}
+use Rattle.std.specs.List.{AllByRecursion}
 use Rattle.vocabulary.specs.Rules.{among}
 use Rattle.vocabulary.specs.Settings.{Agreed}
 use Rattle.vocabulary.specs.declared.order.Order.{Order}
@@ -218,10 +218,10 @@ module _ (a : Agreed) (s : Surroundings) where
   put_each k (q ∷ ps) = puts_append a.trip (frames_of a s (number_at a k) q) (frames_from a s (suc k) ps) ∙ omega (arith, frames_put (number_at a k) q, put_each (suc k) ps)
 
   -- each is for a unit of the settings
-  for_unit : (n : ℕ) (qs : List Put) → among n a.numbers ≡ true → All (ForUnit a) (frames_of a s n qs)
+  for_unit : (n : ℕ) (qs : List Put) → among n a.numbers ≡ true → AllByRecursion (ForUnit a) (frames_of a s n qs)
   for_unit n [] h = tt
   for_unit n (q ∷ qs) h = let r = read_put a s n q in ((record { sender = n; packets = r.packet ∷ [] }, r.reads, h), for_unit n qs h)
 
-  pub for_units_lem : (k : ℕ) (ps : List (List Put)) → k + length ps ≤ length a.numbers → All (ForUnit a) (frames_from a s k ps)
+  pub for_units_lem : (k : ℕ) (ps : List (List Put)) → k + length ps ≤ length a.numbers → AllByRecursion (ForUnit a) (frames_from a s k ps)
   for_units_lem k [] h = tt
   for_units_lem k (q ∷ ps) h = All-append (ForUnit a) (frames_of a s (number_at a k) q) (frames_from a s (suc k) ps) (for_unit (number_at a k) q (among_at a.numbers k (omega arith))) (for_units_lem (suc k) ps (omega arith))

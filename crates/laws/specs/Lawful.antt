@@ -1,6 +1,6 @@
 -- The laws of a history.
 use Rattle.std.specs.Prelude.{◌≡◌, ℕ, zero, suc, ◌+◌, ◌<◌, ◌≤◌, Bool, true, false, ◌↔◌, List, [], ◌∷◌, ◌++◌, length, Some, None, Ok, Err, count_by, Option, Result}
-use Rattle.std.specs.List.{AllByRecursion as All}
+use Rattle.std.specs.List.{AllByRecursion}
 use Rattle.vocabulary.specs.Causes.{cause_number}
 use Rattle.vocabulary.specs.Rules.{among}
 use Rattle.vocabulary.specs.Settings.{Agreed}
@@ -159,7 +159,7 @@ pub record Lawful (a : Agreed) (limits : Order → ℕ) (h : List Exchange) : Ty
   -- at most one unit at DA, and at most one at HS: after every exchange, and after every moment, so after
   -- every tick of a run
   pub alone : (past later : List Exchange) → h ≡ past ++ later → Alone (rows_after (fresh_rows a) past)
-  pub alone_within : All (λ (m : Moment). Alone m.rows) (moments_in h)
+  pub alone_within : AllByRecursion (λ (m : Moment). Alone m.rows) (moments_in h)
   -- a unit fails for time at an event exactly if it is a tick, the unit has an order open, and this tick
   -- is the limit-th since the order was taken or, if it is conditional, since the latest notice
   pub timely : (i : ℕ) → i < length a.numbers → (before later : List Event) (e : Event) → events_over a i (fresh_rows a) h ≡ before ++ (e ∷ later) →
@@ -176,7 +176,7 @@ pub record Lawful (a : Agreed) (limits : Order → ℕ) (h : List Exchange) : Ty
       (((sum_over (λ x. (counts_of x.answer).answered) h + sum_over (λ x. (counts_of x.answer).followed) h) + sum_over (λ x. (counts_of x.answer).failed) h) + sum_over (λ x. (counts_of x.answer).voided) h)
       + total (length a.numbers) (λ i. is_open (open_order (events_over a i (fresh_rows a) h)))
   -- every frame added is for a unit of the settings
-  pub for_units : (past later : List Exchange) (x : Exchange) → h ≡ past ++ (x ∷ later) → All (ForUnit a) x.added
+  pub for_units : (past later : List Exchange) (x : Exchange) → h ≡ past ++ (x ∷ later) → AllByRecursion (ForUnit a) x.added
   -- a failed unit stays failed until power-off, and gets at most one Failure order till then, and only if
   -- it has failed
   pub stays : (i : ℕ) → i < length a.numbers → Stays i (fresh_rows a) (moments_in h)

@@ -1,7 +1,7 @@
 -- Entries: what is written is read, and what is read was written so.
 use Rattle.std.proofs.Common.{◌≡◌, ℕ, zero, suc, ◌+◌, ◌-◌, ◌*◌, ◌<◌, ◌≤◌, min, Bool, true, false, cond, ◌&&◌, eqb, leb, List, [], ◌∷◌, ◌++◌, map, length, get_or, take, drop, replicate, is_some, Some, None, Option, sym, refl, ap, ◌∙◌, subst, append_assoc, arith, length-append, length-drop, length-take, take-add}
 use lib.ListN.{length-replicate}
-use Rattle.std.specs.List.{flat_map, AllByRecursion as All, slice_get}
+use Rattle.std.specs.List.{flat_map, AllByRecursion, slice_get}
 use Rattle.std.proofs.lemmas.List.{drop_at, drop-drop, drop-take, length-map, take-append-drop, take_at, take-take}
 use Rattle.std.proofs.lemmas.Option.{slice_get_past}
 use Rattle.std.proofs.lemmas.Bool.{and_left, and_parts, eq-eqb, eqb-true, le-leb, leb-true, ne_eqb, true≢false}
@@ -38,7 +38,7 @@ entries_front n os ys h = sym (entries_take n os) ∙ ap (entries_in n) h ∙ en
 
 -- No entry is wrong, wherever the first starts.
 abbrev pub AllEntries : List (List ℕ) → Type 0
-AllEntries es = All (λ e. is_entry e ≡ true) es
+AllEntries es = AllByRecursion (λ e. is_entry e ≡ true) es
 
 pub wrong_none : (es : List (List ℕ)) (p : ℕ) → AllEntries es → wrong_from es p ≡ None
 wrong_none [] p h = refl
@@ -217,7 +217,7 @@ entry_is (x ∷ xs) h =
 
 -- All frames of a log are frames.
 abbrev pub AllFrames : List (List ℕ) → Type 0
-AllFrames fs = All (λ f. in_size 16 f ≡ true) fs
+AllFrames fs = AllByRecursion (λ f. in_size 16 f ≡ true) fs
 
 pub frames_sized : (es : List (List ℕ)) → AllEntries es → AllFrames (map frame_in es)
 frames_sized [] h = tt

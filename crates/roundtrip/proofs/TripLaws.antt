@@ -2,7 +2,7 @@
 use Rattle.std.proofs.Common.{◌≡◌, ℕ, zero, suc, ◌+◌, ◌-◌, ◌*◌, ◌/◌, ◌<◌, ◌≤◌, Bool, true, false, not, ◌&&◌, eqb, leb, List, [], ◌∷◌, ◌++◌, map, length, get_or, take, drop, replicate, is_ok, Some, None, Ok, Option, Result, sym, refl, ap, ◌∙◌, subst, append_assoc, zero-add, arith, length-append, length-drop, length-take-le, take_at, take-add, drop_at, w8, Fits}
 use lib.ListN.{length-replicate}
 use Rattle.std.specs.Int.Digits.{AllBelowBase}
-use Rattle.std.specs.List.{AllByRecursion as All}
+use Rattle.std.specs.List.{AllByRecursion}
 use Rattle.std.proofs.ByRecursion.{All-append, All-take, All-drop, All-from_get_or}
 use Rattle.std.proofs.lemmas.List.{take-replicate, replicate-append-replicate}
 use Rattle.std.proofs.lemmas.Bool.{cond_both, cond-true, cond-false, and_parts, and_right, le-ltb, eq-eqb, ne_eqb, leb-true, false≢true}
@@ -152,7 +152,7 @@ unless_ok : {X : Type 0} (f : Option Fault) (r : Result X Fault) (x : X) → unl
 unless_ok None r x h = (refl, h)
 unless_ok (Some e) r x h = absurd (not_read e x h)
 
-zero_list : (bs : List ℕ) → All (λ b. b ≡ 0) bs → bs ≡ replicate (length bs) 0
+zero_list : (bs : List ℕ) → AllByRecursion (λ b. b ≡ 0) bs → bs ≡ replicate (length bs) 0
 zero_list [] a = refl
 zero_list (b ∷ bs) a = λ i. a.0 i ∷ zero_list bs a.1 i
 
@@ -207,8 +207,8 @@ module _ (trip : ℕ) (m s : List ℕ) (o : Octets m) (x : Reading) (q : read_me
   same_again z =
       let b = body_of trip (walked trip 16 (body_bits m)).packets in
       let pad = was.pad in
-      let zs : All (λ d. d ≡ 0) pad =
-      subst (All (λ d. d ≡ 0)) ((λ i. drop (length (body_of trip (sym reading_is i).packets)) (sym was.same i)) ∙ drop_at b pad (length b) refl) z in
+      let zs : AllByRecursion (λ d. d ≡ 0) pad =
+      subst (AllByRecursion (λ d. d ≡ 0)) ((λ i. drop (length (body_of trip (sym reading_is i).packets)) (sym was.same i)) ∙ drop_at b pad (length b) refl) z in
       let seven : length pad + (7 - length pad) ≡ 7 = omega (arith, was.short) in
       let rest : List ℕ = replicate (7 - length pad) 0 in
       let bits : b ++ replicate 7 0 ≡ bits_of (drop 2 m) ++ rest =

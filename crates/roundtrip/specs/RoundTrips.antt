@@ -1,6 +1,6 @@
 -- What is written is read back, and what is read is written back.
 use Rattle.std.specs.Prelude.{◌≡◌, ℕ, ◌*◌, ◌≤◌, Bool, true, false, ◌&&◌, List, [], ◌∷◌, ◌++◌, length, take, drop, is_ok, Ok, Result, nat_le}
-use Rattle.std.specs.List.{flat_map, AllByRecursion as All}
+use Rattle.std.specs.List.{flat_map, AllByRecursion}
 use Rattle.vocabulary.specs.declared.fault.Fault.{Fault}
 use Rattle.wire.specs.Messages.{Reading, read_message, body_bits}
 use Rattle.wire.specs.Packets.{Content}
@@ -35,7 +35,7 @@ pub record ReadBack (trip sender : ℕ) (ps : List Content) (s : List ℕ) (r : 
 
 -- The bits behind the packets of a message are zeros.
 abbrev pub ZeroPadded : ℕ → List ℕ → Reading → Type 0
-ZeroPadded trip m r = All (λ b. b ≡ 0) (drop (length (body_of trip r.packets)) (body_bits m))
+ZeroPadded trip m r = AllByRecursion (λ b. b ≡ 0) (drop (length (body_of trip r.packets)) (body_bits m))
 
 -- Octets m that are rewritten to a buffer s, with the answer r, so that it holds s': if they are read as a message, and
 -- there is room for it, then it is written, with as many octets, and if its padding is zero, with the same octets.

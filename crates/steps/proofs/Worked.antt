@@ -1,11 +1,11 @@
 -- The worked cases, computed.
 use Rattle.std.proofs.Common.{refl}
-use Rattle.std.specs.List.{AllByRecursion as All}
+use Rattle.std.specs.List.{AllByRecursion}
 use Rattle.book.specs.Standard.{reason_for}
 use Rattle.steps.specs.Exchanges.{exchange}
 use Rattle.steps.specs.Cases.{cases, Holds, Plays, first_order}
 
-pub all : All Holds cases
+pub all : AllByRecursion Holds cases
 unfolding exchange reason_for
 all = ((refl, refl), ((refl, refl), ((refl, tt), ((refl, tt), (((refl, refl), ((refl, refl), tt)), (((refl, refl), tt), (((refl, refl), tt), (((refl, refl), tt), tt))))))))
 

@@ -1,6 +1,6 @@
 -- Worked cases, with 200 for the number of a trip notice.
 use Rattle.std.specs.Prelude.{◌≡◌, ℕ, true, List, [], ◌∷◌, ◌++◌, map, replicate, Some, None, Ok, Err, Option, Result, refl}
-use Rattle.std.specs.List.{AllByRecursion as All}
+use Rattle.std.specs.List.{AllByRecursion}
 use Rattle.vocabulary.specs.declared.cause.Cause.{Cause}
 use Rattle.vocabulary.specs.declared.cause.Cause.TheVariants.{TimeToDataAvailable}
 use Rattle.vocabulary.specs.declared.fault.Fault.{Fault}
@@ -126,7 +126,7 @@ WrittenSo (Err f) octets = Unit {0}
 
 abbrev pub Holds : Case → Type 0
 Holds (reads octets reading) = (read_message 200 octets ≡ reading) × WrittenSo reading octets
-Holds (plays ps) = All Plays ps
+Holds (plays ps) = AllByRecursion Plays ps
 
 -- A unit is connected, greets and is brought to CO by its request; and on to CS by another.
 abbrev pub to_co : ℕ → List Turn

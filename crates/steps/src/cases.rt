@@ -1,6 +1,6 @@
 // Worked cases.
 ghost use Rattle.std.specs.Prelude.{◌≡◌, length};
-ghost use Rattle.std.specs.List.{AllByRecursion as All};
+ghost use Rattle.std.specs.List.{AllByRecursion};
 ghost use Rattle.steps.specs.Cases.{cases, Holds};
 
 // How many there are.
@@ -13,7 +13,7 @@ fn count() -> usize
 // How many worked cases there are. Every one of them holds.
 pub fn worked_cases() -> usize
     ensures count { result ≡ length cases }
-    ensures hold { All Holds cases }
+    ensures hold { AllByRecursion Holds cases }
 {
     count()
 }

@@ -1,6 +1,6 @@
 -- Bits and the octets that they fill.
 use Rattle.std.proofs.Common.{◌≡◌, ℕ, zero, suc, ◌+◌, ◌-◌, ◌*◌, ◌/◌, ◌%◌, ◌^◌, ◌<◌, ◌≤◌, true, List, [], ◌∷◌, ◌++◌, length, replicate, sym, refl, ap, ◌∙◌, append_assoc, append-nil, add-zero, add-suc, mul_assoc, pow-suc, mul-one, add-one, arith, length-append}
-use Rattle.std.specs.List.{AllByRecursion as All}
+use Rattle.std.specs.List.{AllByRecursion}
 use Rattle.std.proofs.lemmas.Nat.{shl_below}
 use Rattle.std.proofs.ByRecursion.{All-append}
 use Rattle.std.proofs.lemmas.List.{replicate_more, replicate-append-replicate}
@@ -10,7 +10,7 @@ use Rattle.bits.proofs.BitLaws.{number_field, bits_of_append}
 use Rattle.writer.specs.Drafts.{are_octets, octets_in}
 
 abbrev pub Octets : List ℕ → Type 0
-Octets s = All (λ o. o < 256) s
+Octets s = AllByRecursion (λ o. o < 256) s
 
 pub octets_all : (s : List ℕ) → are_octets s ≡ true → Octets s
 octets_all [] h = tt
