@@ -1,3 +1,4 @@
+-- Definitions.
 pub mod Views
 pub mod Orders
 pub mod Laws
@@ -5,6 +6,7 @@ pub mod Standard
 pub mod Bare
 pub mod Withheld
 pub mod Conditions
+-- Lemmas, proved here since the laws of the three books cite them.
 pub mod Lawful
 pub mod Exactly
 pub mod Tests

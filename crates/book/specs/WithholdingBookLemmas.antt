@@ -1,3 +1,4 @@
+-- A withholding book keeps the laws, since its inner book does.
 use Rattle.std.specs.Prelude.{◌≡◌, Some, Option}
 use Rattle.vocabulary.specs.declared.order.Order.{Order}
 use Rattle.book.specs.Withheld.{without}

@@ -2,7 +2,7 @@
 ghost use Rattle.std.specs.Prelude.{◌≡◌, Some, None};
 ghost use Rattle.std.specs.Option.{option_map};
 ghost use Rattle.vocabulary.specs.Octets.{octets_of, sized};
-ghost use Rattle.script.specs.Text.{add_digit, number, hex_value, octet as octetOf, octets};
+ghost use Rattle.script.specs.Text.{add_digit, number, hex_value, octet as octet_of, octets};
 ghost use Rattle.script.specs.Grammar.{sized_octets};
 
 use vocabulary::octets::Octets;
@@ -51,7 +51,7 @@ fn hex_value(c: u8) -> Option<u8>
 
 // An octet of two hexadecimal digits.
 fn octet(high: u8, low: u8) -> Option<u8>
-    ensures { result ≡ octetOf high low }
+    ensures { result ≡ octet_of high low }
 {
     let high = hex_value(high)?;
     let low = hex_value(low)?;

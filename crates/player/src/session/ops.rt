@@ -3,7 +3,7 @@ ghost use Rattle.std.specs.Option.{option_map};
 ghost use Rattle.vocabulary.specs.Octets.{octets_of};
 ghost use Rattle.vocabulary.specs.Settings.{answered, settings_of};
 ghost use Rattle.script.specs.Meaning.{numbers_of, said};
-ghost use Rattle.player.specs.Answers.{answer_to, on_message, on_new, standing_after, standing, standing_new, trip_number, versions as playerVersions};
+ghost use Rattle.player.specs.Answers.{answer_to, on_message, on_new, standing_after, standing, standing_new, trip_number, versions as player_versions};
 
 use super::Session;
 use crate::answer::Answer;
@@ -20,7 +20,7 @@ const TRIP: u8 = 200;
 
 // Majors 3 and 4, minors 0.
 fn versions() -> Versions
-    ensures { result ≡ playerVersions }
+    ensures { result ≡ player_versions }
 {
     Versions {
         lowest: 3,
@@ -31,7 +31,7 @@ fn versions() -> Versions
 
 // The settings of a new control over these STMs.
 fn settings(numbers: &Numbers) -> Result<Settings, Fault>
-    ensures { answered result ≡ settings_of (numbers_of numbers.now) playerVersions trip_number }
+    ensures { answered result ≡ settings_of (numbers_of numbers.now) player_versions trip_number }
 {
     Settings::new(numbers.as_slice(), versions(), TRIP)
 }

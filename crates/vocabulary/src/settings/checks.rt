@@ -1,7 +1,7 @@
 // What is checked before settings are made.
 ghost use Rattle.std.specs.Prelude.{◌≡◌, MatchResult};
-ghost use Rattle.vocabulary.specs.Rules.{among as isAmong, in_range, fits_behind, count_fits, majors_fit};
-ghost use Rattle.vocabulary.specs.Settings.{Held, RefusedAt, improper as improperAt, wrong_numbers};
+ghost use Rattle.vocabulary.specs.Rules.{among as is_among, in_range, fits_behind, count_fits, majors_fit};
+ghost use Rattle.vocabulary.specs.Settings.{Held, RefusedAt, improper as improper_at, wrong_numbers};
 
 use crate::fault::{Fault, Layer, Refusal};
 use crate::versions::Versions;
@@ -13,7 +13,7 @@ const HIGHEST: u16 = 254;
 
 // The refusal of settings, at the place of the wrong part.
 pub fn improper(place: usize) -> Fault
-    ensures { result ≡ improperAt place }
+    ensures { result ≡ improper_at place }
 {
     Fault::new(Refusal::Settings, place, Layer::Control)
 }
@@ -44,7 +44,7 @@ fn in_range(number: u16) -> bool
 
 // Whether a number is one of these.
 fn among(number: u16, numbers: &[u16]) -> bool
-    ensures { result ≡ isAmong number numbers.now }
+    ensures { result ≡ is_among number numbers.now }
 {
     for x in numbers {
         if number == *x {
