@@ -17,9 +17,9 @@ use Rattle.log_writing.specs.declared.open.OpenLog.{OpenLog}
 -- The octets of a frame are 1 to 16.
 pub frame_size_lem : (f : Octets 16) → in_size 16 (octets_of f) ≡ true
 frame_size_lem f =
-    let n : length (octets_of f) ≡ f.len = length-take f.len f.octets ∙ omega (arith, f.within, f.full) in
-    let a : leb 1 (length (octets_of f)) ≡ true = le-leb 1 _ (omega (arith, f.some)) in
-    let b : leb (length (octets_of f)) 16 ≡ true = le-leb _ 16 (omega (arith, f.within)) in
+    let n : length (octets_of f) ≡ f.octets.len = length-take f.octets.len f.octets.items ∙ omega (arith, f.octets.within, f.octets.full) in
+    let a : leb 1 (length (octets_of f)) ≡ true = le-leb 1 _ f.some in
+    let b : leb (length (octets_of f)) 16 ≡ true = le-leb _ 16 (omega (arith, n, f.octets.within)) in
     rw (a, b)
 
 -- What is written over octets leaves those before it, and as many as there were.

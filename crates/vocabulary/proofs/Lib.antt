@@ -1,2 +1,1 @@
-pub mod Wrongs
 pub mod Writing

@@ -1,5 +1,5 @@
 -- Refusals: number, place and layer.
-use Rattle.std.specs.Prelude.{ℕ, List, [], ◌∷◌, codes}
+use Rattle.std.specs.Prelude.{ℕ, List, [], ◌∷◌, ◌++◌, codes, decimal}
 use Rattle.vocabulary.specs.declared.fault.Fault.{Fault}
 use Rattle.vocabulary.specs.declared.fault.Layer.{Layer}
 use Rattle.vocabulary.specs.declared.fault.Layer.TheVariants as layer
@@ -40,3 +40,7 @@ fault_at cause place layer = record { cause = cause; place = place; layer = laye
 -- The number of a fault is that of its refusal.
 abbrev pub fault_number : Fault → ℕ
 fault_number f = refusal_number f.cause
+
+-- A fault as text: its number, its place, and what its layer is called.
+abbrev pub fault_text : Fault → List ℕ
+fault_text f = decimal (fault_number f) ++ (codes " " ++ (decimal f.place ++ (codes " " ++ layer_name f.layer)))

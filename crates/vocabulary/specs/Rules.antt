@@ -1,5 +1,6 @@
 -- What settings have to keep.
-use Rattle.std.specs.Prelude.{ℕ, ◌+◌, ◌-◌, Bool, false, cond, not, ◌&&◌, ◌||◌, List, [], ◌∷◌, ◌++◌, length, Some, None, Option, ◌==◌, nat_le, slice_index}
+use Rattle.std.specs.Prelude.{ℕ, ◌+◌, ◌-◌, Bool, cond, not, ◌&&◌, List, [], ◌∷◌, ◌++◌, length, Some, None, Option, ◌==◌, nat_le, slice_index}
+use Rattle.std.specs.List.{list_any}
 use Rattle.vocabulary.specs.declared.versions.Versions.{Versions}
 
 -- The number of an STM is 1 to 254.
@@ -8,8 +9,7 @@ in_range n = nat_le 1 n && nat_le n 254
 
 -- Whether a number is one of these.
 abbrev pub among : ℕ → List ℕ → Bool
-among n [] = false
-among n (m ∷ ms) = n == m || among n ms
+among n ms = list_any (λ m. m == n) ms
 
 -- A number may stand behind these: it is in range and none of them.
 abbrev pub fits_behind : List ℕ → ℕ → Bool

@@ -1,5 +1,7 @@
 -- Settings: what they agree on, and what is refused.
-use Rattle.std.specs.Prelude.{◌≡◌, ℕ, ◌≤◌, cond, List, length, take, Some, None, Ok, Err, Option, Result}
+use Rattle.std.specs.Prelude.{◌≡◌, ℕ, ◌≤◌, cond, List, length, Some, None, Ok, Err, Option, Result}
+use Rattle.few.specs.Few.{held}
+use Rattle.few.specs.declared.Few.{Few}
 use Rattle.vocabulary.specs.declared.fault.Fault.{Fault}
 use Rattle.vocabulary.specs.declared.fault.Layer.TheVariants as layer
 use Rattle.vocabulary.specs.declared.fault.Refusal.TheVariants as refusal
@@ -22,7 +24,7 @@ pub record Agreed : Type 0 where
 
 -- What these settings agree on.
 abbrev pub agreed : Settings → Agreed
-agreed s = record { numbers = take s.count s.numbers; versions = s.versions; trip = trip_of s.trip }
+agreed s = record { numbers = held s.numbers; versions = s.versions; trip = trip_of s.trip }
 
 -- The place of the count, if there are not 1 to 8 numbers, else of the first wrong number, if there is one.
 abbrev pub wrong_numbers : List ℕ → Option ℕ
@@ -45,9 +47,9 @@ abbrev pub answered : Result Settings Fault → Result Agreed Fault
 answered (Ok s) = Ok (agreed s)
 answered (Err f) = Err f
 
--- Eight places that hold these numbers, none of which is wrong.
-abbrev pub Held : List ℕ → List ℕ → Type 0
-Held ns held = (length held ≡ 8) × (length ns ≤ 8) × (1 ≤ length ns) × (take (length ns) held ≡ ns) × (wrong_number ns ≡ None) × (wrong_numbers ns ≡ None)
+-- These are the numbers, 1 to 8 of them, none of which is wrong.
+abbrev pub Held : List ℕ → Few ℕ 8 → Type 0
+Held ns few = (held few ≡ ns) × (1 ≤ length ns) × (wrong_number ns ≡ None) × (wrong_numbers ns ≡ None)
 
 -- The refusal at the place of what is wrong.
 abbrev pub RefusedAt : Option ℕ → Fault → Type 0

@@ -1,5 +1,5 @@
 -- States and orders: their numbers, and where an order leads.
-use Rattle.std.specs.Prelude.{ℕ, List, [], ◌∷◌}
+use Rattle.std.specs.Prelude.{ℕ, List, [], ◌∷◌, codes}
 use Rattle.vocabulary.specs.declared.state.State.{State}
 use Rattle.vocabulary.specs.declared.state.State.TheVariants.{NoPower, PowerOn, Configuration, DataEntry, ColdStandby, HotStandby, DataAvailable, Failure}
 use Rattle.vocabulary.specs.declared.order.Order.{Order}
@@ -19,6 +19,17 @@ state_number Failure = 8
 -- All states.
 abbrev pub states : List State
 states = NoPower ∷ (PowerOn ∷ (Configuration ∷ (DataEntry ∷ (ColdStandby ∷ (HotStandby ∷ (DataAvailable ∷ (Failure ∷ [])))))))
+
+-- The letters by which the field calls a state.
+abbrev pub state_name : State → List ℕ
+state_name NoPower = codes "NP"
+state_name PowerOn = codes "PO"
+state_name Configuration = codes "CO"
+state_name DataEntry = codes "DE"
+state_name ColdStandby = codes "CS"
+state_name HotStandby = codes "HS"
+state_name DataAvailable = codes "DA"
+state_name Failure = codes "FA"
 
 -- The number of an order is that of its target, but there are two to CS: 4 the unconditional and
 -- 5 the conditional one.

@@ -1,10 +1,13 @@
 // What is handed back when something is refused.
-ghost use Rattle.std.specs.Prelude.{◌≡◌};
-ghost use Rattle.vocabulary.specs.Numbers.{case_of, Names};
-ghost use Rattle.vocabulary.specs.Refusals.{refusal_number, refusals, layer_name, fault_at, fault_number};
+ghost use Rattle.std.specs.Prelude.{◌≡◌, Some};
+ghost use Rattle.vocabulary.specs.Numbers.{case_of, Names, Numbered};
+ghost use Rattle.vocabulary.specs.Refusals.{refusal_number, refusals, layer_name, fault_at, fault_number, fault_text};
+
+use crate::numbers::UnknownNumber;
+use std::fmt;
 
 // The layer that refuses.
-#[derive(Clone, Copy, PartialEq, Eq)]
+#[derive(Clone, Copy, PartialEq, Eq, Debug)]
 pub enum Layer {
     Control,
     Message,
@@ -28,33 +31,42 @@ impl Layer {
     }
 }
 
+// The layer's name, for people.
+impl fmt::Display for Layer {
+    ghost output = { λ l. Some (layer_name l) };
+
+    fn fmt<W: fmt::Write>(&self, f: &mut fmt::Formatter<W>) -> fmt::Result {
+        f.write_str(self.name())
+    }
+}
+
 // Why something is refused.
-#[derive(Clone, Copy, PartialEq, Eq)]
+#[derive(Clone, Copy, PartialEq, Eq, Debug)]
 pub enum Refusal {
     // Settings that do not agree with themselves.
-    Settings,
+    Settings = 1,
     // No STM of the settings has this number.
-    UnknownStm,
+    UnknownStm = 2,
     // A message under 5 octets, over 255 or of another length than it says, or one without a packet.
-    MessageLength,
+    MessageLength = 3,
     // A packet that the message's bits do not hold.
-    PacketCut,
+    PacketCut = 4,
     // A length field that no such packet has.
-    PacketLength,
+    PacketLength = 5,
     // A link that is not as the call needs it.
-    Link,
+    Link = 6,
     // No connection any more: the link is final, or the unit has failed.
-    Barred,
+    Barred = 7,
     // STM-1 or STM-15 out of place.
-    Greeting,
+    Greeting = 8,
     // A value outside its range.
-    Range,
+    Range = 9,
     // Octets that are no log.
-    Log,
+    Log = 10,
     // No room.
-    Full,
+    Full = 11,
     // What does not fit its field, or its frame.
-    Misfit,
+    Misfit = 12,
 }
 
 impl Refusal {
@@ -101,9 +113,43 @@ impl Refusal {
     }
 }
 
+// The number of a refusal.
+impl From<Refusal> for u8 {
+    ghost from_gives = { λ r n. n ≡ refusal_number r };
+
+    fn from(refusal: Refusal) -> u8 {
+        refusal as u8
+    }
+}
+
+// The refusal with a number, if there is one.
+impl TryFrom<u8> for Refusal {
+    type Error = UnknownNumber;
+
+    ghost try_from_gives = { Numbered refusal_number refusals };
+
+    fn try_from(number: u8) -> Result<Refusal, UnknownNumber> {
+        match number {
+            1 => Ok(Refusal::Settings),
+            2 => Ok(Refusal::UnknownStm),
+            3 => Ok(Refusal::MessageLength),
+            4 => Ok(Refusal::PacketCut),
+            5 => Ok(Refusal::PacketLength),
+            6 => Ok(Refusal::Link),
+            7 => Ok(Refusal::Barred),
+            8 => Ok(Refusal::Greeting),
+            9 => Ok(Refusal::Range),
+            10 => Ok(Refusal::Log),
+            11 => Ok(Refusal::Full),
+            12 => Ok(Refusal::Misfit),
+            _ => Err(UnknownNumber),
+        }
+    }
+}
+
 // A refusal with the place that it is about, a bit of a message, an octet of a file or a part of
 // the settings (0 where there is none), and the layer that refuses.
-#[derive(Clone, Copy, PartialEq, Eq)]
+#[derive(Clone, Copy, PartialEq, Eq, Debug)]
 pub struct Fault {
     pub cause: Refusal,
     pub place: usize,
@@ -127,5 +173,14 @@ impl Fault {
         ensures { result ≡ fault_number self.now }
     {
         self.cause.number()
+    }
+}
+
+// Number, place and layer of a fault.
+impl fmt::Display for Fault {
+    ghost output = { λ f. Some (fault_text f) };
+
+    fn fmt<W: fmt::Write>(&self, f: &mut fmt::Formatter<W>) -> fmt::Result {
+        write!(f, "{} {} {}", self.number(), self.place, self.layer)
     }
 }

@@ -7,6 +7,7 @@ pub mod fault;
 pub mod level;
 pub mod link;
 pub mod mode;
+pub mod numbers;
 pub mod octets;
 pub mod order;
 pub mod settings;

@@ -2,7 +2,7 @@
 
 // Closed until connected; open until the greeting; checked once the versions agree; final after a
 // final disconnection, and then never opened again before power-off.
-#[derive(Clone, Copy, PartialEq, Eq)]
+#[derive(Clone, Copy, PartialEq, Eq, Debug)]
 pub enum Link {
     Closed,
     Open,

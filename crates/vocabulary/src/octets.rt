@@ -1,18 +1,22 @@
 // A few octets, held by value.
-ghost use Rattle.std.specs.Prelude.{◌≡◌, ◌≤◌, length};
+ghost use Rattle.std.specs.Prelude.{◌≤◌, length};
+ghost use Rattle.few.specs.Few.{held};
+
+use few::Few;
 
 pub mod ops;
 pub mod text;
 
-// 1 to N octets. What it means is the list of them, whatever the places behind them hold.
+// 1 to N octets. What it means is the list of them.
 #[derive(Clone, Copy)]
 pub struct Octets<const N: usize> {
-    octets: [u8; N],
-    len: usize,
-    ghost some: { 1 ≤ len },
-    ghost within: { len ≤ N },
-    ghost full: { length octets ≡ N },
+    octets: Few<u8, N>,
+    ghost some: { 1 ≤ length (held octets) },
 }
 
 // What a carrier carries: 1 to 16 octets.
 pub type Frame = Octets<16>;
+
+// Not 1 to N octets.
+#[derive(Clone, Copy, PartialEq, Eq, Debug)]
+pub struct WrongSize;

@@ -1,9 +1,11 @@
 // What a control is set to.
-ghost use Rattle.std.specs.Prelude.{◌≡◌, ◌≤◌, true, false, length, take, is_some};
+ghost use Rattle.std.specs.Prelude.{◌≡◌, ◌≤◌, true, false, length, is_some};
+ghost use Rattle.few.specs.Few.{held};
 ghost use Rattle.vocabulary.specs.Rules.{wrong_number, majors_fit};
 
 use crate::trip::TripNumber;
 use crate::versions::Versions;
+use few::Few;
 
 mod checks;
 pub mod ops;
@@ -12,13 +14,10 @@ pub mod ops;
 // the versions that are spoken; and the packet number of the trip notice.
 #[derive(Clone, Copy)]
 pub struct Settings {
-    numbers: [u8; 8],
-    count: usize,
+    numbers: Few<u8, 8>,
     versions: Versions,
     trip: TripNumber,
-    ghost full: { length numbers ≡ 8 },
-    ghost some: { 1 ≤ count },
-    ghost few: { count ≤ 8 },
-    ghost proper: { is_some (wrong_number (take count numbers)) ≡ false },
+    ghost some: { 1 ≤ length (held numbers) },
+    ghost proper: { is_some (wrong_number (held numbers)) ≡ false },
     ghost spoken: { majors_fit versions ≡ true },
 }

@@ -10,3 +10,7 @@ pub struct TripNumber {
     number: u8,
     ghost free: { taken number ≡ false },
 }
+
+// A packet number that another known packet has.
+#[derive(Clone, Copy, PartialEq, Eq, Debug)]
+pub struct Taken;

@@ -1,15 +1,23 @@
-ghost use Rattle.std.specs.Prelude.{◌≡◌, ℕ, length};
+ghost use Rattle.std.specs.Prelude.{◌≡◌, length};
 ghost use Rattle.std.specs.Option.{option_map};
-ghost use Rattle.vocabulary.specs.Octets.{octets_of, in_size, sized};
+ghost use Rattle.vocabulary.specs.Octets.{octets_of, sized, Sized};
 
-use super::Octets;
+use super::{Octets, WrongSize};
+use few::Few;
 
-// 1 to `most` octets.
-fn in_size(octets: &[u8], most: usize) -> bool
-    ensures { result ≡ in_size most octets.now }
-{
-    let len = octets.len();
-    1 <= len && len <= most
+// These octets, if there are 1 to N of them.
+impl<'a, const N: usize> TryFrom<&'a [u8]> for Octets<N> {
+    type Error = WrongSize;
+
+    ghost try_from_gives = { λ octets r. Sized N octets.now r };
+
+    fn try_from(octets: &'a [u8]) -> Result<Octets<N>, WrongSize> {
+        if octets.is_empty() {
+            return Err(WrongSize);
+        }
+        let octets = Few::try_from(octets).map_err(|_| WrongSize)?;
+        Ok(Octets { octets })
+    }
 }
 
 impl<const N: usize> Octets<N> {
@@ -17,29 +25,20 @@ impl<const N: usize> Octets<N> {
     pub fn new(octets: &[u8]) -> Option<Octets<N>>
         ensures { option_map octets_of result ≡ sized N octets.now }
     {
-        if !in_size(octets, N) {
-            return None;
-        }
-        let len = octets.len();
-        let mut held = [0u8; N];
-        for (i, x) in octets.iter().enumerate() {
-            held[i] = *x;
-        }
-        Some(Octets { octets: held, len })
+        Octets::try_from(octets).ok()
     }
 
     // How many they are.
     pub fn len(&self) -> usize
         ensures { result ≡ length (octets_of self.now) }
     {
-        self.as_slice().len()
+        self.octets.len()
     }
 
     // The octets.
     pub fn as_slice(&self) -> &[u8]
         ensures { result.now ≡ octets_of self.now }
     {
-        let all = &self.octets[..];
-        &all[0..self.len]
+        self.octets.as_slice()
     }
 }

@@ -1,10 +1,11 @@
 // What is checked before settings are made.
 ghost use Rattle.std.specs.Prelude.{◌≡◌, MatchResult};
-ghost use Rattle.vocabulary.specs.Rules.{among as is_among, in_range, fits_behind, count_fits, majors_fit};
+ghost use Rattle.vocabulary.specs.Rules.{in_range, fits_behind, count_fits, majors_fit};
 ghost use Rattle.vocabulary.specs.Settings.{Held, RefusedAt, improper as improper_at, wrong_numbers};
 
 use crate::fault::{Fault, Layer, Refusal};
 use crate::versions::Versions;
+use few::Few;
 
 // How many STMs there may be, and the highest number that one may have.
 const MOST: usize = 8;
@@ -42,40 +43,27 @@ fn in_range(number: u16) -> bool
     1 <= number && number <= HIGHEST
 }
 
-// Whether a number is one of these.
-fn among(number: u16, numbers: &[u16]) -> bool
-    ensures { result ≡ is_among number numbers.now }
-{
-    for x in numbers {
-        if number == *x {
-            return true;
-        }
-    }
-    false
-}
-
 // A number in range that is none of the earlier ones.
 fn fits_behind(earlier: &[u16], number: u16) -> bool
     ensures { result ≡ fits_behind earlier.now number }
 {
-    in_range(number) && !among(number, earlier)
+    in_range(number) && !earlier.contains(&number)
 }
 
 // The numbers, 1 to 8 of them, each in range and different from those before it, or the refusal of
 // the count or of the first number that is not.
-pub fn proper(numbers: &[u16]) -> Result<[u8; 8], Fault>
+pub fn proper(numbers: &[u16]) -> Result<Few<u8, 8>, Fault>
     ensures { MatchResult result (Held numbers.now) (RefusedAt (wrong_numbers numbers.now)) }
 {
     if !count_fits(numbers) {
         return Err(improper(0));
     }
-    let mut held = [0u8; 8];
-    for (i, x) in numbers.iter().enumerate() {
-        let number = *x;
-        if !fits_behind(&numbers[0..i], number) {
+    let mut held = Few::new();
+    for (i, number) in numbers.iter().enumerate() {
+        if !fits_behind(&numbers[..i], *number) {
             return Err(improper(i + 1));
         }
-        held[i] = number as u8;
+        let _ = held.push(*number as u8);
     }
     Ok(held)
 }

@@ -18,16 +18,13 @@ impl Settings {
     pub fn new(numbers: &[u16], versions: Versions, trip: u8) -> Result<Settings, Fault>
         ensures { answered result ≡ settings_of numbers.now versions trip }
     {
-        let held = proper(numbers)?;
+        let numbers = proper(numbers)?;
         if !majors_fit(&versions) {
             return Err(improper(MAJORS));
         }
-        let Some(trip) = TripNumber::new(trip) else {
-            return Err(improper(TRIP));
-        };
+        let trip = TripNumber::try_from(trip).map_err(|_| improper(TRIP))?;
         Ok(Settings {
-            numbers: held,
-            count: numbers.len(),
+            numbers,
             versions,
             trip,
         })
@@ -37,7 +34,7 @@ impl Settings {
     pub fn numbers(&self) -> &[u8]
         ensures { result.now ≡ (agreed self.now).numbers }
     {
-        &self.numbers[0..self.count]
+        self.numbers.as_slice()
     }
 
     // The minor that goes with a major, if the major is one of the settings.
@@ -45,10 +42,11 @@ impl Settings {
         ensures { result ≡ minor_of (agreed self.now).versions major }
     {
         let versions = &self.versions;
-        if major < versions.lowest || major > versions.highest {
+        if major > versions.highest {
             return None;
         }
-        Some(versions.minors[(major - versions.lowest) as usize])
+        let above = major.checked_sub(versions.lowest)?;
+        Some(versions.minors[usize::from(above)])
     }
 
     // The packet number of the trip notice.

@@ -1,19 +1,40 @@
 ghost use Rattle.std.specs.Prelude.{◌≡◌, if◌then◌else◌, Some, None};
 ghost use Rattle.std.specs.Option.{option_map};
+ghost use Rattle.std.specs.Result.{result_ok};
 ghost use Rattle.vocabulary.specs.Trips.{taken};
 ghost use Rattle.vocabulary.specs.Settings.{trip_of};
 
-use super::TripNumber;
+use super::{Taken, TripNumber};
+
+// This number, unless it is taken.
+impl TryFrom<u8> for TripNumber {
+    type Error = Taken;
+
+    ghost try_from_gives = { λ n r. option_map trip_of (result_ok r) ≡ (if taken n then None else Some n) };
+
+    fn try_from(number: u8) -> Result<TripNumber, Taken> {
+        match number {
+            0 | 1 | 5 | 13 | 14 | 15 => Err(Taken),
+            _ => Ok(TripNumber { number }),
+        }
+    }
+}
+
+// The packet number.
+impl From<TripNumber> for u8 {
+    ghost from_gives = { λ t n. n ≡ trip_of t };
+
+    fn from(trip: TripNumber) -> u8 {
+        trip.number
+    }
+}
 
 impl TripNumber {
     // This number, unless it is taken.
     pub fn new(number: u8) -> Option<TripNumber>
         ensures { option_map trip_of result ≡ (if taken number then None else Some number) }
     {
-        match number {
-            0 | 1 | 5 | 13 | 14 | 15 => None,
-            _ => Some(TripNumber { number }),
-        }
+        TripNumber::try_from(number).ok()
     }
 
     // The packet number.

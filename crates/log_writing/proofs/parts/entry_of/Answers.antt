@@ -20,7 +20,7 @@ step n i xs h few =
     ∙ ap (λ ys. n ∷ (ys ++ rest)) (sym (take_more xs i 0 h))
 
 few : (f : Octets 16) (xs : List ℕ) → xs ≡ octets_of f → length xs ≤ 16
-few f xs e = omega (arith, ap length e, length-take f.len f.octets, f.within)
+few f xs e = omega (arith, ap length e, length-take f.octets.len f.octets.items, f.octets.within)
 
 -- all of them
 all : (i : ℕ) (xs ys : List ℕ) → i ≡ length xs → xs ≡ ys → length xs ∷ (take i xs ++ replicate (16 - i) 0) ≡ entry_of ys
