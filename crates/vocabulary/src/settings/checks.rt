@@ -23,24 +23,22 @@ pub fn improper(place: usize) -> Fault
 fn count_fits(numbers: &[u16]) -> bool
     ensures { result ≡ count_fits numbers.now }
 {
-    let count = numbers.len();
-    1 <= count && count <= MOST
+    (1..=MOST).contains(&numbers.len())
 }
 
 // The highest major is 0 to 3 above the lowest.
 pub fn majors_fit(versions: &Versions) -> bool
     ensures { result ≡ majors_fit versions.now }
 {
-    let lowest = versions.lowest as u16;
-    let highest = versions.highest as u16;
-    lowest <= highest && highest <= lowest + 3
+    let above = versions.highest.checked_sub(versions.lowest);
+    above.is_some_and(|above| above <= 3)
 }
 
 // 1 to 254.
 fn in_range(number: u16) -> bool
     ensures { result ≡ in_range number }
 {
-    1 <= number && number <= HIGHEST
+    (1..=HIGHEST).contains(&number)
 }
 
 // A number in range that is none of the earlier ones.
