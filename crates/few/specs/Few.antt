@@ -1,5 +1,5 @@
 -- What a few values mean.
-use Rattle.std.specs.Prelude.{◌≡◌, ℕ, List, length, take, Ok, Err, Result, MatchResult, ◌≤◌, ◌<◌}
+use Rattle.std.specs.Prelude.{◌≡◌, ℕ, List, length, take, Result, MatchResult, ◌<◌}
 use Rattle.few.specs.declared.Few.{Few}
 use Rattle.few.specs.declared.Full.{Full}
 

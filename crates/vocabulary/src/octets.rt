@@ -1,11 +1,11 @@
 // A few octets, held by value.
-ghost use Rattle.std.specs.Prelude.{◌≤◌, length};
+ghost use Rattle.std.specs.Prelude.{◌≡◌, ◌≤◌, length, Some};
+ghost use Rattle.std.specs.Option.{option_map};
 ghost use Rattle.few.specs.Few.{held};
+ghost use Rattle.vocabulary.specs.Hex.{hex};
 
 use few::Few;
-
-pub mod ops;
-pub mod text;
+use std::fmt;
 
 // 1 to N octets. What it means is the list of them.
 #[derive(Clone, Copy)]
@@ -20,3 +20,59 @@ pub type Frame = Octets<16>;
 // Not 1 to N octets.
 #[derive(Clone, Copy, PartialEq, Eq, Debug)]
 pub struct WrongSize;
+
+// These octets, if there are 1 to N of them.
+impl<'a, const N: usize> TryFrom<&'a [u8]> for Octets<N> {
+    ghost use Rattle.vocabulary.specs.Octets.{Sized};
+
+    type Error = WrongSize;
+
+    ghost try_from_gives = { λ octets r. Sized N octets.now r };
+
+    fn try_from(octets: &'a [u8]) -> Result<Octets<N>, WrongSize> {
+        if octets.is_empty() {
+            return Err(WrongSize);
+        }
+        let octets = Few::try_from(octets).map_err(|_| WrongSize)?;
+        Ok(Octets { octets })
+    }
+}
+
+impl<const N: usize> Octets<N> {
+    ghost use Rattle.vocabulary.specs.Octets.{octets_of, sized};
+
+    // These octets, if there are 1 to N of them.
+    pub fn new(octets: &[u8]) -> Option<Octets<N>>
+        ensures { option_map octets_of result ≡ sized N octets.now }
+    {
+        Octets::try_from(octets).ok()
+    }
+
+    // How many they are.
+    pub fn len(&self) -> usize
+        ensures { result ≡ length (octets_of self.now) }
+    {
+        self.octets.len()
+    }
+
+    // The octets.
+    pub fn as_slice(&self) -> &[u8]
+        ensures { result.now ≡ octets_of self.now }
+    {
+        self.octets.as_slice()
+    }
+}
+
+// Two digits for each octet, unspaced.
+impl<const N: usize> fmt::Display for Octets<N> {
+    ghost use Rattle.vocabulary.specs.Octets.{octets_of};
+
+    ghost output = { λ o. Some (hex (octets_of o)) };
+
+    fn fmt<W: fmt::Write>(&self, f: &mut fmt::Formatter<W>) -> fmt::Result {
+        for octet in self.as_slice() {
+            write!(f, "{octet:02X}")?;
+        }
+        Ok(())
+    }
+}

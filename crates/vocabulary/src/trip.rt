@@ -1,8 +1,8 @@
 // The packet number of the trip notice, the National Trip Procedure.
-ghost use Rattle.std.specs.Prelude.{◌≡◌, false};
+ghost use Rattle.std.specs.Prelude.{◌≡◌, false, if◌then◌else◌, Some, None};
+ghost use Rattle.std.specs.Option.{option_map};
+ghost use Rattle.std.specs.Result.{result_ok};
 ghost use Rattle.vocabulary.specs.Trips.{taken};
-
-pub mod ops;
 
 // Any packet number that no other known packet has.
 #[derive(Clone, Copy)]
@@ -14,3 +14,48 @@ pub struct TripNumber {
 // A packet number that another known packet has.
 #[derive(Clone, Copy, PartialEq, Eq, Debug)]
 pub struct Taken;
+
+// This number, unless it is taken.
+impl TryFrom<u8> for TripNumber {
+    ghost use Rattle.vocabulary.specs.Settings.{trip_of};
+
+    type Error = Taken;
+
+    ghost try_from_gives = { λ n r. option_map trip_of (result_ok r) ≡ (if taken n then None else Some n) };
+
+    fn try_from(number: u8) -> Result<TripNumber, Taken> {
+        match number {
+            0 | 1 | 5 | 13 | 14 | 15 => Err(Taken),
+            _ => Ok(TripNumber { number }),
+        }
+    }
+}
+
+// The packet number.
+impl From<TripNumber> for u8 {
+    ghost use Rattle.vocabulary.specs.Settings.{trip_of};
+
+    ghost from_gives = { λ t n. n ≡ trip_of t };
+
+    fn from(trip: TripNumber) -> u8 {
+        trip.number
+    }
+}
+
+impl TripNumber {
+    ghost use Rattle.vocabulary.specs.Settings.{trip_of};
+
+    // This number, unless it is taken.
+    pub fn new(number: u8) -> Option<TripNumber>
+        ensures { option_map trip_of result ≡ (if taken number then None else Some number) }
+    {
+        TripNumber::try_from(number).ok()
+    }
+
+    // The packet number.
+    pub fn number(self) -> u8
+        ensures { result ≡ trip_of self }
+    {
+        self.number
+    }
+}

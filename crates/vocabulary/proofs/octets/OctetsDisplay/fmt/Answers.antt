@@ -4,7 +4,7 @@ use Rattle.std.proofs.lemmas.Fmt.{hex_byte}
 use Rattle.vocabulary.specs.Hex.{octet_text}
 use Rattle.vocabulary.specs.Octets.{octets_of}
 use Rattle.vocabulary.proofs.Writing.{put_item}
-use Rattle.vocabulary.proofs.octets.text.OctetsDisplay.fmt.Goals as goal
+use Rattle.vocabulary.proofs.octets.OctetsDisplay.fmt.Goals as goal
 
 pub loop-octet-preserved : goal.loop-octet-preserved
 loop-octet-preserved g c plain =

@@ -3,7 +3,7 @@ use Rattle.std.specs.List.{flat_map}
 use Rattle.std.specs.Fmt.{IsPlainFormatter, HasWritten}
 use Rattle.vocabulary.specs.Hex.{octet_text}
 use Rattle.vocabulary.specs.Octets.{octets_of}
-use Rattle.vocabulary.proofs.octets.text.OctetsDisplay.fmt.Given as goal
+use Rattle.vocabulary.proofs.octets.OctetsDisplay.fmt.Given as goal
 
 abbrev pub invariant-loop-octet : goal.invariant-loop-octet
 invariant-loop-octet g l =
