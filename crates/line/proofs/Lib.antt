@@ -1,3 +1,2 @@
 pub mod Lines
 mod Rings
-mod Steps

@@ -1,16 +1,12 @@
 -- A list that is read round its end.
-use Rattle.std.proofs.Common.{◌≡◌, ℕ, ◌+◌, ◌-◌, ◌<◌, ◌≤◌, min, cond, ltb, List, [], ◌∷◌, ◌++◌, length, get_or, take, drop, set, Some, sym, ap, ◌∙◌, ⊎_elim, append_assoc, arith, length-append, length-drop, length-take}
-use lib.Seq.{take-set-lt}
+use Rattle.std.proofs.Common.{◌≡◌, ℕ, ◌+◌, ◌-◌, ◌<◌, ◌≤◌, cond, ltb, List, [], ◌∷◌, ◌++◌, length, get_or, take, drop, set, Some, sym, ap, ◌∙◌, append_assoc, arith, length-append, length-drop, length-take, length-set, get_or-drop, get_or-take}
 use Rattle.std.specs.List.{slice_get}
-use Rattle.std.proofs.lemmas.List.{append-nil, drop_all, drop_more, drop-set-add, drop-set-lt, drop-take, get_or_append_left, get_or-append_right, get_or-drop, get_or-take, set-append_left, set-append_right, take_all, take-append-le, take_more, take_more_set, take-set-le}
-use Rattle.std.proofs.lemmas.Option.{slice_get-get_or}
-use Rattle.std.proofs.lemmas.Bool.{cases_lt, cond-false, cond-true, le-ltb, lt-ltb}
+use Rattle.std.proofs.lemmas.List.{same_lists, length_push}
+use Rattle.std.proofs.lemmas.Option.{slice_get-get_or, slice_get_within}
 use Rattle.std.proofs.lemmas.Bool.Decides.{nat_tests}
+use Rattle.std.proofs.lemmas.Grind.{common_steps}
 
--- Of n slots, the slot that a number stands for, and the one that is i behind it.
-abbrev pub begin : ℕ → ℕ → ℕ
-begin n at = cond (ltb at n) at 0
-
+-- Of n slots, the one that is i behind a slot.
 abbrev pub behind : ℕ → ℕ → ℕ → ℕ
 behind n at i = cond (ltb (at + i) n) (at + i) (at + i - n)
 
@@ -18,102 +14,49 @@ behind n at i = cond (ltb (at + i) n) (at + i) (at + i - n)
 abbrev pub turned : {X : Type 0} → ℕ → List X → List X
 turned at xs = drop at xs ++ take at xs
 
-pub begin_within : (n at : ℕ) → begin n at ≤ n
-begin_within n at = grind (arith, nat_tests)
+-- The first u of them.
+pub length_front : {X : Type 0} (at u : ℕ) (xs : List X) → u ≤ length xs → length (take u (turned at xs)) ≡ u
+length_front at u xs h =
+    omega (arith, length-take u (turned at xs), length-append (drop at xs) (take at xs), length-drop at xs, length-take at xs)
 
-pub begin_below : (n at : ℕ) → 0 < n → begin n at < n
-begin_below n at h = grind (arith, nat_tests)
+pub get_or_front : {X : Type 0} (at u i : ℕ) (xs : List X) (d : X) → at ≤ length xs → u ≤ length xs → i < u → get_or (take u (turned at xs)) i d ≡ get_or xs (behind (length xs) at i) d
+get_or_front at u i xs d a h l =
+    get_or-take u (turned at xs) i d l ∙ grind (arith, common_steps, nat_tests, length-drop at xs)
 
-behind_below : (n at i : ℕ) → at ≤ n → i < n → behind n at i < n
-behind_below n at i a h = grind (arith, nat_tests)
-
--- The slot behind a slot is a slot.
-pub begin_next : (n at : ℕ) → at < n → begin n (behind n at 1) ≡ behind n at 1
-begin_next n at h = grind (arith, nat_tests)
-
-length_turned : {X : Type 0} (at : ℕ) (xs : List X) → length (turned at xs) ≡ length xs
-length_turned at xs = omega (arith, length-append (drop at xs) (take at xs), length-drop at xs, length-take at xs)
-
-pub length_used : {X : Type 0} (u at : ℕ) (xs : List X) → length (take u (turned at xs)) ≡ min u (length xs)
-length_used u at xs = length-take u (turned at xs) ∙ ap (min u) (length_turned at xs)
-
-get_d_turned : {X : Type 0} (at i : ℕ) (xs : List X) (d : X) → at ≤ length xs → i < length xs → get_or (turned at xs) i d ≡ get_or xs (behind (length xs) at i) d
-get_d_turned at i xs d a h =
-    ⊎_elim
-    (λ l. let m : i < length (drop at xs) = omega (arith, length-drop at xs) in
-    get_or_append_left (drop at xs) (take at xs) d i m ∙ get_or-drop at xs i d
-    ∙ ap (λ k. get_or xs k d) (sym (cond-true _ (at + i) (at + i - length xs) (lt-ltb _ _ l))))
-    (λ l. let m : i - (length xs - at) < at = omega arith in
-    let e : i - (length xs - at) ≡ at + i - length xs = omega arith in
-    let k : length xs - at ≤ i = omega arith in
-    get_or-append_right (drop at xs) (take at xs) _ i d (length-drop at xs) k ∙ get_or-take at xs _ d m
-    ∙ ap (λ k. get_or xs k d) (e ∙ sym (cond-false _ (at + i) (at + i - length xs) (le-ltb _ _ l))))
-    (cases_lt (at + i) (length xs))
-
-turned_set : {X : Type 0} (at i : ℕ) (xs : List X) (x : X) → at ≤ length xs → i < length xs → turned at (set xs (behind (length xs) at i) x) ≡ set (turned at xs) i x
-turned_set at i xs x a h =
-    ⊎_elim
-    (λ l. let m : i < length (drop at xs) = omega (arith, length-drop at xs) in
-    let k : at ≤ at + i = omega arith in
-    ap (λ k. turned at (set xs k x)) (cond-true _ (at + i) (at + i - length xs) (lt-ltb _ _ l))
-    ∙ rw (drop-set-add at xs i x, take-set-le at xs (at + i) x k) (sym (set-append_left (drop at xs) (take at xs) i x m)))
-    (λ l. let m : at + i - length xs < at = omega arith in
-    let e : i - (length xs - at) ≡ at + i - length xs = omega arith in
-    let k : length xs - at ≤ i = omega arith in
-    ap (λ k. turned at (set xs k x)) (cond-false _ (at + i) (at + i - length xs) (le-ltb _ _ l))
-    ∙ rw (drop-set-lt at xs (at + i - length xs) x m, take-set-lt at xs (at + i - length xs) x m)
-    (sym (set-append_right (drop at xs) (take at xs) _ i x (length-drop at xs) k ∙ ap (λ k. drop at xs ++ set (take at xs) k x) e)))
-    (cases_lt (at + i) (length xs))
-
--- One place further on, the first stands behind the others.
-turned_next : {X : Type 0} (at : ℕ) (xs : List X) (d : X) → at < length xs → turned (behind (length xs) at 1) xs ≡ drop 1 (turned at xs) ++ (get_or xs at d ∷ [])
-turned_next at xs d a =
-    let here : turned at xs ≡ get_or xs at d ∷ (drop (at + 1) xs ++ take at xs) = ap (λ r. r ++ take at xs) (drop_more xs at d a) in
-    let next : turned (at + 1) xs ≡ drop 1 (turned at xs) ++ (get_or xs at d ∷ []) =
-    ap (λ r. drop (at + 1) xs ++ r) (take_more xs at d a)
-    ∙ sym (append_assoc (drop (at + 1) xs) (take at xs) (get_or xs at d ∷ []))
-    ∙ sym (ap (λ r. drop 1 r ++ (get_or xs at d ∷ [])) here) in
-    ⊎_elim
-    (λ l. ap (λ k. turned k xs) (cond-true _ (at + 1) (at + 1 - length xs) (lt-ltb _ _ l)) ∙ next)
-    (λ l. let z : at + 1 - length xs ≡ 0 = omega arith in
-    ap (λ k. turned k xs) (cond-false _ (at + 1) (at + 1 - length xs) (le-ltb _ _ l) ∙ z)
-    ∙ append-nil xs
-    ∙ sym (ap (λ r. r ++ take (at + 1) xs) (drop_all (at + 1) xs l) ∙ take_all (at + 1) xs l)
-    ∙ next)
-    (cases_lt (at + 1) (length xs))
-
--- Who stands at a place, among the first u, lies in that place's slot.
-nth_within : {X : Type 0} (at u i : ℕ) (xs : List X) (d : X) → at ≤ length xs → i < min u (length xs) → slice_get (take u (turned at xs)) i ≡ slice_get xs (behind (length xs) at i)
-nth_within at u i xs d a h =
-    let long : i < length (take u (turned at xs)) = omega (arith, length_used u at xs) in
-    let low : i < length xs = omega arith in
-    slice_get-get_or (take u (turned at xs)) i d long
-    ∙ ap Some (get_or-take u (turned at xs) i d (omega arith) ∙ get_d_turned at i xs d a low)
-    ∙ sym (slice_get-get_or xs (behind (length xs) at i) d (behind_below (length xs) at i a low))
-
-pub nth_turned : {X : Type 0} (at u i : ℕ) (xs : List X) → at ≤ length xs → i < min u (length xs) → slice_get (take u (turned at xs)) i ≡ slice_get xs (behind (length xs) at i)
-nth_turned at u i [] a h = absurd (omega arith)
-nth_turned at u i (x ∷ xs) a h = nth_within at u i (x ∷ xs) x a h
+pub nth_front : {X : Type 0} (at u i : ℕ) (xs : List X) → at ≤ length xs → u ≤ length xs → i < u → slice_get (take u (turned at xs)) i ≡ slice_get xs (behind (length xs) at i)
+nth_front at u i [] a h l = absurd (omega arith)
+nth_front at u i (x ∷ xs) a h l =
+    let there : behind (length (x ∷ xs)) at i < length (x ∷ xs) = grind (arith, nat_tests) in
+    slice_get-get_or _ i x (omega (arith, length_front at u (x ∷ xs) h))
+    ∙ ap Some (get_or_front at u i (x ∷ xs) x a h l)
+    ∙ sym (slice_get-get_or (x ∷ xs) _ x there)
 
 -- One more at the end.
-pub turned_put : {X : Type 0} (at u : ℕ) (xs : List X) (x : X) → at ≤ length xs → u < length xs → take (u + 1) (turned at (set xs (behind (length xs) at u) x)) ≡ take u (turned at xs) ++ (x ∷ [])
-turned_put at u xs x a h =
-    let l : u < length (turned at xs) = omega (arith, length_turned at xs) in
-    ap (take (u + 1)) (turned_set at u xs x a h) ∙ take_more_set (turned at xs) u x l
-
-take_min : {X : Type 0} (u : ℕ) (ys : List X) → take (min u (length ys)) ys ≡ take u ys
-take_min u ys =
-    ⊎_elim (λ l. let e : min u (length ys) ≡ u = omega arith in ap (λ k. take k ys) e)
-    (λ l. let low : length ys ≤ min u (length ys) = omega arith in take_all _ ys low ∙ sym (take_all u ys l))
-    (cases_lt u (length ys))
+pub front_put : {X : Type 0} (at u k : ℕ) (xs : List X) (x : X) → at ≤ length xs → u < length xs → k ≡ behind (length xs) at u → take (u + 1) (turned at (set xs k x)) ≡ take u (turned at xs) ++ (x ∷ [])
+front_put at u k xs x a h e =
+    let ys = set xs k x in
+    let same : length ys ≡ length xs = length-set xs k x in
+    let old = length_front at u xs (omega arith) in
+    let new = length_front at (u + 1) ys (omega arith) in
+    same_lists _ _ (grind (arith, length_push)) (λ i d in_range.
+    let there = get_or_front at (u + 1) i ys d (omega arith) (omega arith) (omega arith) in
+    grind (arith, nat_tests, common_steps, get_or_front at u i xs d))
 
 -- One less at the front.
-pub turned_take : {X : Type 0} (at u : ℕ) (xs : List X) (d : X) → at < length xs → 0 < u → take (min u (length xs) - 1) (turned (behind (length xs) at 1) xs) ≡ drop 1 (take u (turned at xs))
-turned_take at u xs d a p =
-    let k : min u (length xs) - 1 ≤ length (drop 1 (turned at xs)) = omega (arith, length-drop 1 (turned at xs), length_turned at xs) in
-    let e : 1 + (min u (length xs) - 1) ≡ min u (length (turned at xs)) = omega (arith, length_turned at xs) in
-    ap (take (min u (length xs) - 1)) (turned_next at xs d a)
-    ∙ take-append-le _ (drop 1 (turned at xs)) (get_or xs at d ∷ []) k
-    ∙ sym (drop-take 1 (min u (length xs) - 1) (turned at xs))
-    ∙ ap (λ k. drop 1 (take k (turned at xs))) e
-    ∙ ap (drop 1) (take_min u (turned at xs))
+pub front_take : {X : Type 0} (at u : ℕ) (xs : List X) (x : X) → at ≤ length xs - 1 → u ≤ length xs → Some x ≡ slice_get (take u (turned at xs)) 0 → take (u - 1) (turned (behind (length xs) at 1) xs) ≡ drop 1 (take u (turned at xs))
+front_take at u xs x a h first =
+    let next = behind (length xs) at 1 in
+    let old = length_front at u xs h in
+    let some = slice_get_within (take u (turned at xs)) 0 x (sym first) in
+    let below : next < length xs = grind (arith, nat_tests) in
+    let new = length_front next (u - 1) xs (omega arith) in
+    same_lists _ _ (omega (arith, length-drop 1 (take u (turned at xs)))) (λ i d in_range.
+    let here = get_or_front at u (1 + i) xs d (omega arith) h (omega arith) in
+    let there = get_or_front next (u - 1) i xs d (omega arith) (omega arith) (omega arith) in
+    let e : behind (length xs) next i ≡ behind (length xs) at (1 + i) = grind (arith, nat_tests) in
+    there ∙ ap (λ k. get_or xs k d) e ∙ sym (get_or-drop 1 (take u (turned at xs)) i d ∙ here))
+
+-- All that came is all that went and what is left, when the first has gone.
+pub first_taken : {X : Type 0} (went ws : List X) (x : X) → Some x ≡ slice_get ws 0 → went ++ ws ≡ (went ++ (x ∷ [])) ++ drop 1 ws
+first_taken went [] x s = cc
+first_taken went (y ∷ ws) x s = let f : x ≡ y = cc in simp (f, append_assoc)

@@ -1,7 +1,7 @@
 -- What a line means. Its slots are used as a ring: behind the last slot comes slot 0 again.
 use Rattle.std.specs.Prelude.{◌≡◌, ℕ, ◌+◌, ◌-◌, cond, List, ◌++◌, length, take, drop, Ok, Err, Result, ◌==◌, nat_lt}
 use Rattle.std.specs.Borrow.{GName}
-use Rattle.line.specs.declared.Full.{Full}
+use Rattle.few.specs.declared.Full.{Full}
 use Rattle.line.specs.declared.Line.{Line}
 
 -- What the lent slots hold.
@@ -9,12 +9,13 @@ abbrev pub lent : {T : Type 0} → Line T → List T
 lent l = l.slots.now
 
 -- The loan of the slots. As long as it is the same one, the lender gets back what the line's slots hold last.
+-- Each contract that takes a line as `&mut` says so: nothing else ties a struct that holds a `&mut` to its lender.
 abbrev pub loan : {T : Type 0} → Line T → GName
 loan l = l.slots.ghost_name
 
--- The slot of the first element. A `first` past the end stands for slot 0.
+-- The slot of the first element.
 abbrev pub start_of : {T : Type 0} → Line T → ℕ
-start_of l = cond (nat_lt l.first (length (lent l))) l.first 0
+start_of l = l.first
 
 -- The slot of a place: that many slots behind the first element's, counted round the end.
 abbrev pub slot_of : {T : Type 0} → Line T → ℕ → ℕ
@@ -24,7 +25,7 @@ slot_of l i = cond (nat_lt (start_of l + i) (length (lent l))) (start_of l + i) 
 abbrev pub ring : {T : Type 0} → Line T → List T
 ring l = drop (start_of l) (lent l) ++ take (start_of l) (lent l)
 
--- The elements that wait, in order. A `used` above the number of slots stands for all of them.
+-- The elements that wait, in order.
 abbrev pub waits : {T : Type 0} → Line T → List T
 waits l = take l.used (ring l)
 

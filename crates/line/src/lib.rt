@@ -1,25 +1,26 @@
 // A waiting line: first in, first out, for every kind of element, in slots that are lent.
 #![tactic(auto)]
 
-ghost use Rattle.std.specs.Prelude.{◌≡◌, ◌+◌, ◌-◌, ◌<◌, min, List, [], ◌∷◌, ◌++◌, length, drop, is_some, is_ok, if◌then◌else◌, Some, None, ◌==◌, nat_lt, slice_set};
+ghost use Rattle.std.specs.Prelude.{◌≡◌, ◌+◌, ◌-◌, ◌≤◌, List, [], ◌∷◌, ◌++◌, length, drop, is_some, is_ok, if◌then◌else◌, ◌==◌, slice_set};
 ghost use Rattle.std.specs.Option.{option_to_list};
 ghost use Rattle.std.specs.List.{slice_get};
-ghost use Rattle.line.specs.Waiting.{InOrder, lent, loan, room, slot_of, start_of, verdict, waits};
 
 // No place was free.
-#[derive(Clone, Copy, PartialEq, Eq, Debug)]
-pub struct Full;
+pub use few::Full;
 
 // The first element lies in slot `first` and the others behind it, round the end; there are `used` of them.
-// A `first` past the end stands for slot 0, and a `used` above the number of slots for all of them.
 #[derive(Drop)]
 pub struct Line<'a, T> {
     slots: &'a mut [T],
     first: usize,
     used: usize,
+    ghost begins: { first ≤ length slots.now - 1 },
+    ghost fits: { used ≤ length slots.now },
 }
 
 impl<'a, T: Copy> Line<'a, T> {
+    ghost use Rattle.line.specs.Waiting.{InOrder, lent, loan, room, slot_of, start_of, verdict, waits};
+
     // A line on which nothing waits. The slots keep what they hold.
     pub fn new(slots: &'a mut [T]) -> Line<'a, T>
         ensures waiting { waits result ≡ [] }
@@ -40,7 +41,7 @@ impl<'a, T: Copy> Line<'a, T> {
     pub fn len(&self) -> usize
         ensures { result ≡ length (waits self.now) }
     {
-        self.count()
+        self.used
     }
 
     // Whether none does.
@@ -54,18 +55,22 @@ impl<'a, T: Copy> Line<'a, T> {
     pub fn free(&self) -> usize
         ensures { result ≡ room self.now }
     {
-        self.slots.len().saturating_sub(self.len())
+        self.slots.len() - self.used
     }
 
     // The element at a place, counted from 0. Past the last there is none.
     pub fn get(&self, place: usize) -> Option<T>
         ensures { result ≡ slice_get (waits self.now) place }
     {
-        let slot = self.find(place)?;
-        self.slots.get(slot).copied()
+        if place < self.used {
+            Some(self.slots[self.slot(place)])
+        } else {
+            None
+        }
     }
 
     // Puts x behind the last element. Where no place is free this is refused, and nothing changes.
+    #[tactic(auto, using(crate::proofs::Rings::front_put, crate::proofs::Rings::length_front, std::proofs::Common::append_assoc))]
     pub fn put(&mut self, x: T) -> Result<(), Full>
         ensures answer { result ≡ verdict (room self.old) }
         ensures waiting { waits self.new ≡ (if is_ok result then waits self.old ++ (x ∷ []) else waits self.old) }
@@ -75,14 +80,18 @@ impl<'a, T: Copy> Line<'a, T> {
         ensures lender { loan self.new ≡ loan self.old }
         ensures order { (came went : List T) → InOrder came went self.old → InOrder (came ++ (if is_ok result then x ∷ [] else [])) went self.new }
     {
-        if self.is_full() {
+        if self.free() == 0 {
             return Err(Full);
         }
-        self.append(x);
+        let place = self.used;
+        let slot = self.slot(place);
+        self.slots[slot] = x;
+        self.used += 1;
         Ok(())
     }
 
     // Takes the first element off, and the others move up in their order. Where none waits nothing changes.
+    #[tactic(auto, using(crate::proofs::Rings::front_take, crate::proofs::Rings::first_taken))]
     pub fn take(&mut self) -> Option<T>
         ensures answer { result ≡ slice_get (waits self.old) 0 }
         ensures waiting { waits self.new ≡ drop 1 (waits self.old) }
@@ -93,80 +102,20 @@ impl<'a, T: Copy> Line<'a, T> {
         ensures order { (came went : List T) → InOrder came went self.old → InOrder came (went ++ option_to_list result) self.new }
     {
         let taken = self.get(0)?;
-        self.advance();
+        self.first = self.slot(1);
+        self.used -= 1;
         Some(taken)
-    }
-
-    // How many slots are in use.
-    fn count(&self) -> usize
-        ensures { result ≡ min self.now.used (length (lent self.now)) }
-    {
-        self.used.min(self.slots.len())
-    }
-
-    fn is_full(&self) -> bool
-        ensures { result ≡ (room self.now == 0) }
-    {
-        self.free() == 0
-    }
-
-    // The slot of the first element.
-    fn start(&self) -> usize
-        ensures { result ≡ start_of self.now }
-    {
-        if self.first < self.slots.len() {
-            self.first
-        } else {
-            0
-        }
     }
 
     // The slot of a place.
     fn slot(&self, place: usize) -> usize
         ensures { result ≡ slot_of self.now place }
     {
-        let start = self.start();
-        let to_end = self.slots.len() - start;
+        let to_end = self.slots.len() - self.first;
         if place < to_end {
-            start + place
+            self.first + place
         } else {
             place - to_end
         }
-    }
-
-    // The slot of a place at which an element waits.
-    fn find(&self, place: usize) -> Option<usize>
-        ensures { result ≡ (if nat_lt place (length (waits self.now)) then Some (slot_of self.now place) else None) }
-    {
-        if place < self.len() {
-            Some(self.slot(place))
-        } else {
-            None
-        }
-    }
-
-    // Writes x into the slot behind the last element's.
-    fn append(&mut self, x: T)
-        requires { self.old.used < length (lent self.old) }
-        ensures first { self.new.first ≡ self.old.first }
-        ensures used { self.new.used ≡ self.old.used + 1 }
-        ensures slots { lent self.new ≡ slice_set (lent self.old) (slot_of self.old self.old.used) x }
-        ensures lender { loan self.new ≡ loan self.old }
-    {
-        let place = self.used;
-        let slot = self.slot(place);
-        self.slots[slot] = x;
-        self.used += 1;
-    }
-
-    // Starts one slot further on, with one element fewer.
-    fn advance(&mut self)
-        ensures first { self.new.first ≡ slot_of self.old 1 }
-        ensures used { self.new.used ≡ length (waits self.old) - 1 }
-        ensures slots { lent self.new ≡ lent self.old }
-        ensures lender { loan self.new ≡ loan self.old }
-    {
-        self.used = self.len().saturating_sub(1);
-        self.first = self.slot(1);
     }
 }
