@@ -3,12 +3,11 @@ ghost use Rattle.std.specs.Prelude.{◌≡◌, ◌+◌, ◌-◌, [], ◌∷◌, 
 ghost use Rattle.std.specs.Option.{option_map};
 ghost use Rattle.std.specs.List.{slice_get};
 ghost use Rattle.vocabulary.specs.Octets.{octets_of};
-ghost use Rattle.line.specs.Waiting.{waits};
 ghost use Rattle.carrier.specs.Buses.{bus_frames, bus_free, bus_loan, bus_slot, bus_slots, bus_start, frames_of};
 ghost use Rattle.carrier.specs.Frames.{put_answer};
 
 use crate::Carrier;
-use crate::frames::{full_fault, to_frame};
+use crate::frames::{FULL, to_frame};
 use line::Line;
 use vocabulary::fault::Fault;
 use vocabulary::octets::Frame;
@@ -43,27 +42,14 @@ impl<'a> Bus<'a> {
     {
         self.line.take()
     }
-
-    // How many wait on the line.
-    fn in_line(&self) -> usize
-        ensures { result ≡ length (waits self.now.line) }
-    {
-        self.line.len()
-    }
-
-    // Who waits on the line at a place.
-    fn on_line(&self, place: usize) -> Option<Frame>
-        ensures { result ≡ slice_get (waits self.now.line) place }
-    {
-        self.line.get(place)
-    }
 }
 
-impl<'a> Carrier for Bus<'a> {
+impl Carrier for Bus<'_> {
     ghost waiting = { bus_frames };
 
     ghost free = { bus_free };
 
+    #[tactic(auto, using(crate::proofs::Framed::by_octets_each))]
     fn put(&mut self, frame: &[u8]) -> Result<(), Fault>
         ensures answer { result ≡ put_answer frame.now (bus_free self.old) }
         ensures frames { bus_frames self.new ≡ (if is_ok result then bus_frames self.old ++ (frame.now ∷ []) else bus_frames self.old) }
@@ -73,14 +59,11 @@ impl<'a> Carrier for Bus<'a> {
         ensures lender { bus_loan self.new ≡ bus_loan self.old }
     {
         let frame = to_frame(frame)?;
-        match self.line.put(frame) {
-            Ok(()) => Ok(()),
-            Err(_) => Err(full_fault()),
-        }
+        self.line.put(frame).map_err(|_| FULL)
     }
 
     fn count(&self) -> usize {
-        self.in_line()
+        self.line.len()
     }
 
     fn places(&self) -> usize {
@@ -88,6 +71,6 @@ impl<'a> Carrier for Bus<'a> {
     }
 
     fn look(&self, place: usize) -> Option<Frame> {
-        self.on_line(place)
+        self.line.get(place)
     }
 }
