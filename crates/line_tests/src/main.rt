@@ -1,26 +1,22 @@
 // Runs the waiting line at numbers and at frames, and proves what a client of it can say.
 #![tactic(auto)]
 
-ghost use Rattle.std.specs.Prelude.{◌≡◌, ◌-◌, [], ◌∷◌, ◌++◌, length, is_ok, if◌then◌else◌, Some, None, nat_eq, slice_set};
+ghost use Rattle.std.specs.Prelude.{◌≡◌, ◌-◌, ◌≤◌, [], ◌∷◌, ◌++◌, length, is_ok, if◌then◌else◌, Some, None, nat_eq, slice_set};
+ghost use Rattle.vocabulary.specs.Octets.{octets_of};
 ghost use Rattle.line.specs.Waiting.{room};
-ghost use Rattle.line_tests.specs.Frames.{frames_on, octets_of};
+ghost use Rattle.line_tests.specs.Frames.{frames_on};
 
 use line::{Full, Line};
 use std::{fmt, io};
+use vocabulary::octets::Frame;
 
-// Up to 16 octets, of which the first `len` count.
+// What prints in options and slices as it prints by itself.
 #[derive(Clone, Copy)]
-struct Frame {
-    octets: [u8; 16],
-    len: u8,
-}
+struct Plain<T>(T);
 
-impl fmt::Debug for Frame {
+impl<T: fmt::Display> fmt::Debug for Plain<T> {
     fn fmt<W: fmt::Write>(&self, f: &mut fmt::Formatter<W>) -> fmt::Result {
-        for octet in self.octets.iter().take(usize::from(self.len)) {
-            write!(f, "{octet:02X}")?;
-        }
-        Ok(())
+        write!(f, "{}", self.0)
     }
 }
 
@@ -43,23 +39,28 @@ fn put_frame(line: &mut Line<Frame>, frame: Frame) -> Result<(), Full>
     line.put(frame)
 }
 
-fn filled(len: u8, octet: u8) -> Frame {
-    Frame {
-        octets: [octet; 16],
-        len,
-    }
+// A frame of octets that fit one.
+fn filled(octets: &[u8]) -> Frame
+    requires some { 1 ≤ length octets.now }
+    requires within { length octets.now ≤ 16 }
+{
+    Frame::try_from(octets).unwrap()
 }
 
-fn put_all<T: Copy + fmt::Debug>(rt: &HostRuntime, line: &mut Line<T>, xs: &[T]) -> io::Result<()> {
+fn put_all<T: Copy + fmt::Display>(
+    rt: &HostRuntime,
+    line: &mut Line<T>,
+    xs: &[T],
+) -> io::Result<()> {
     for x in xs {
-        println!(rt; "put {x:?}: {:?}", line.put(*x))?;
+        println!(rt; "put {x}: {:?}", line.put(*x))?;
     }
     Ok(())
 }
 
-fn look<T: Copy + fmt::Debug>(rt: &HostRuntime, line: &Line<T>) -> io::Result<()> {
+fn look<T: Copy + fmt::Display>(rt: &HostRuntime, line: &Line<T>) -> io::Result<()> {
     for place in 0..4 {
-        println!(rt; "place {place}: {:?}", line.get(place))?;
+        println!(rt; "place {place}: {:?}", line.get(place).map(Plain))?;
     }
     println!(rt;
         "{} wait, {} free, empty: {}",
@@ -69,23 +70,23 @@ fn look<T: Copy + fmt::Debug>(rt: &HostRuntime, line: &Line<T>) -> io::Result<()
     )
 }
 
-fn take_all<T: Copy + fmt::Debug>(rt: &HostRuntime, line: &mut Line<T>) -> io::Result<()> {
+fn take_all<T: Copy + fmt::Display>(rt: &HostRuntime, line: &mut Line<T>) -> io::Result<()> {
     while let Some(x) = line.take() {
-        println!(rt; "take: {x:?}")?;
+        println!(rt; "take: {x}")?;
     }
     Ok(())
 }
 
 // Puts more than there are slots, takes one, puts another round the end, looks, and takes them all.
-fn run<T: Copy + fmt::Debug>(
+fn run<T: Copy + fmt::Display>(
     rt: &HostRuntime,
     line: &mut Line<T>,
     xs: &[T],
     last: T,
 ) -> io::Result<()> {
     put_all(rt, line, xs)?;
-    println!(rt; "take: {:?}", line.take())?;
-    println!(rt; "put {last:?}: {:?}", line.put(last))?;
+    println!(rt; "take: {:?}", line.take().map(Plain))?;
+    println!(rt; "put {last}: {:?}", line.put(last))?;
     look(rt, line)?;
     take_all(rt, line)?;
     look(rt, line)
@@ -99,16 +100,16 @@ fn numbers(rt: &HostRuntime) -> io::Result<()> {
 }
 
 fn frames(rt: &HostRuntime) -> io::Result<()> {
-    let mut slots = [filled(1, 0); 2];
+    let mut slots = [filled(&[0]); 2];
     let mut line = Line::new(&mut slots);
     run(
         rt,
         &mut line,
-        &[filled(2, 0xA2), filled(3, 0xA3), filled(4, 0xA4)],
-        filled(5, 0xA5),
+        &[filled(&[0xA2; 2]), filled(&[0xA3; 3]), filled(&[0xA4; 4])],
+        filled(&[0xA5; 5]),
     )?;
-    println!(rt; "put frame: {:?}", put_frame(&mut line, filled(6, 0xA6)))?;
-    println!(rt; "slots: {slots:?}")
+    println!(rt; "put frame: {:?}", put_frame(&mut line, filled(&[0xA6; 6])))?;
+    println!(rt; "slots: {:?}", slots.map(Plain))
 }
 
 fn main(rt: HostRuntime) -> io::Result<()> {
