@@ -9,6 +9,6 @@ pub mod Conditions
 -- Lemmas, proved here since the laws of the three books cite them.
 pub mod Lawful
 pub mod Exactly
-pub mod Tests
+pub mod Kept
 pub mod LawfulBare
-pub mod WithholdingBookLemmas
+pub mod LawfulWithholding

@@ -1,7 +1,9 @@
 // The conditions that call for an order.
-ghost use Rattle.std.specs.Prelude.{◌≡◌};
+ghost use Rattle.std.specs.Prelude.{◌≡◌, Some};
+ghost use Rattle.std.specs.Fmt.{padded};
 ghost use Rattle.book.specs.Standard.{called_order, condition_name};
 
+use std::fmt;
 use vocabulary::order::Order;
 
 // Why the standard book orders. STM X is the STM of the view, level NTC X the one that it serves.
@@ -49,12 +51,16 @@ impl Condition {
             Condition::LevelLeftForAnother => Order::ToColdStandbyConditionally,
         }
     }
+}
 
-    // The condition's name, for people.
-    pub fn name(self) -> &'static str
-        ensures { result.now ≡ condition_name self }
-    {
-        match self {
+// A condition prints its name, for people.
+impl fmt::Display for Condition {
+    ghost output = { λ condition. Some (condition_name condition) };
+
+    ghost styled_output = { λ condition spec. Some (padded spec (condition_name condition)) };
+
+    fn fmt<W: fmt::Write>(&self, f: &mut fmt::Formatter<W>) -> fmt::Result {
+        f.pad(match self {
             Condition::ConfigurationRequested => "A2 CO requested",
             Condition::DataEntryRequested => "A3 DE requested",
             Condition::ColdStandbyRequested => "A4a CS requested",
@@ -64,6 +70,6 @@ impl Condition {
             Condition::Tripped => "L4a tripped",
             Condition::LevelLeftForEtcs => "level left for ETCS",
             Condition::LevelLeftForAnother => "level left for another",
-        }
+        })
     }
 }

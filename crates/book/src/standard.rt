@@ -5,7 +5,7 @@ ghost use Rattle.std.specs.Bool.{then_some};
 ghost use Rattle.book.specs.declared.condition.Condition.TheVariants.{LevelAnnounced, LevelInForce, StandbyNotNeeded, Tripped};
 ghost use Rattle.book.specs.Conditions.{ExactlyWhen};
 ghost use Rattle.book.specs.Standard.{national, trip, in_force, announced_alone, not_needed, called_order, rule_in_po, rule_in_co, rule_in_de, rule_in_cs, rule_in_hs, rule_in_da, rule_at_level, first_rule, reason_for, standard_answer};
-ghost use Rattle.book.specs.Lawful.{standard_paired, standard_over_lem, standard_alone, usual_limited};
+ghost use Rattle.book.specs.Lawful.{standard_lawful};
 
 use crate::Book;
 use crate::condition::Condition;
@@ -27,13 +27,6 @@ fn is_national(mode: Mode) -> bool
         mode,
         Mode::NationalSystem | Mode::Sleeping | Mode::NonLeading
     )
-}
-
-// Whether this is the mode Trip.
-pub(crate) fn is_trip(mode: Mode) -> bool
-    ensures { result ≡ trip mode }
-{
-    matches!(mode, Mode::Trip)
 }
 
 // Whether CS or HS is to be left for DA: at this STM's level, in a national mode, with no other at DA.
@@ -68,7 +61,7 @@ fn standby_not_needed(view: View) -> Option<Condition>
 fn tripped(view: View) -> Option<Condition>
     ensures { result ≡ then_some (trip view.mode) Tripped }
 {
-    is_trip(view.mode).then_some(Condition::Tripped)
+    (view.mode == Mode::Trip).then_some(Condition::Tripped)
 }
 
 // The rules from DA to CS by the level.
@@ -149,27 +142,14 @@ fn first_rule(view: View) -> Option<Condition>
     }
 }
 
-// A reason, unless the order that is open forbids its order.
-fn unless_forbidden(before: Option<Order>, rule: Option<Condition>) -> Option<Condition>
-    ensures { result ≡ kept (λ c. free before (called_order c)) rule }
-{
-    match rule {
-        Some(condition) => if is_free(before, condition.order()) {
-            Some(condition)
-        } else {
-            None
-        },
-        None => None,
-    }
-}
-
 impl Standard {
     // The condition that calls for an order in this view, unless an open order forbids it.
+    #[tactic(auto, unfolding(crate::specs::Standard::reason_for))]
     pub fn reason(&self, view: View) -> Option<Condition>
         ensures value { result ≡ reason_for view }
         ensures exactly { ExactlyWhen view (standard_answer view) result }
     {
-        unless_forbidden(view.open, first_rule(view))
+        first_rule(view).filter(|condition| is_free(view.open, condition.order()))
     }
 }
 
@@ -178,21 +158,13 @@ impl Book for Standard {
 
     ghost limit = { λ _ o. usual_limit o };
 
-    ghost lawful = { record {
-      held_order = λ b. standard_paired;
-      over_open = λ b. standard_over_lem;
-      alone = λ b. standard_alone;
-      limited = λ b. usual_limited;
-    } };
+    ghost lawful = { standard_lawful };
 
     fn consult(&self, view: View) -> Option<Order>
         ensures value { result ≡ standard_answer view }
         ensures exactly { ExactlyWhen view result (reason_for view) }
     {
-        match self.reason(view) {
-            Some(condition) => Some(condition.order()),
-            None => None,
-        }
+        self.reason(view).map(Condition::order)
     }
 
     fn limit(&self, order: Order) -> u8 {

@@ -1,11 +1,7 @@
 // A book that withholds one order of another book.
 ghost use Rattle.std.specs.Prelude.{◌≡◌};
-ghost use Rattle.vocabulary.specs.Refusals.{fault_at};
-ghost use Rattle.vocabulary.specs.declared.fault.Layer.TheVariants.{Control};
-ghost use Rattle.vocabulary.specs.declared.fault.Refusal.TheVariants.{Range};
 ghost use Rattle.book.specs.Withheld.{without, wrapped};
-ghost use Rattle.vocabulary.specs.declared.order.Order.TheVariants.{ToHotStandby, ToDataAvailable};
-ghost use Rattle.book.specs.WithholdingBookLemmas;
+ghost use Rattle.book.specs.LawfulWithholding.{withholding_lawful};
 
 use crate::Book;
 use crate::view::View;
@@ -26,23 +22,6 @@ pub struct NotWrapped<B> {
     pub fault: Fault,
 }
 
-// An answer without one order.
-fn answer_without(order: Order, answer: Option<Order>) -> Option<Order>
-    ensures { result ≡ without order answer }
-{
-    match answer {
-        Some(given) => if given == order { None } else { Some(given) },
-        None => None,
-    }
-}
-
-// A value outside its range, as the control refuses it.
-fn out_of_range() -> Fault
-    ensures { result ≡ fault_at Range 0 Control }
-{
-    Fault::new(Refusal::Range, 0, Layer::Control)
-}
-
 impl<B> Withholding<B> {
     // This book without the order that has this number.
     pub fn new(inner: B, number: u8) -> Result<Withholding<B>, NotWrapped<B>>
@@ -52,7 +31,7 @@ impl<B> Withholding<B> {
             Some(order) => Ok(Withholding { inner, order }),
             None => Err(NotWrapped {
                 inner,
-                fault: out_of_range(),
+                fault: Fault::new(Refusal::Range, 0, Layer::Control),
             }),
         }
     }
@@ -63,20 +42,12 @@ impl<B: Book> Book for Withholding<B> {
 
     ghost limit = { λ w o. B.Book.limit w.inner o };
 
-    ghost lawful = { let laws = B.Book.lawful in
-        let answer = B.Book.answer in
-        record {
-          held_order = λ b v o e. laws.held_order b.inner v o (WithholdingBookLemmas.inner b.order (answer b.inner v) o e);
-          over_open = λ b v before o p e. laws.over_open b.inner v before o p (WithholdingBookLemmas.inner b.order (answer b.inner v) o e);
-          alone = λ b v. (
-            λ e. (laws.alone b.inner v).0 (WithholdingBookLemmas.inner b.order (answer b.inner v) ToHotStandby e),
-            λ e. (laws.alone b.inner v).1 (WithholdingBookLemmas.inner b.order (answer b.inner v) ToDataAvailable e),
-          );
-          limited = λ b o. laws.limited b.inner o;
-        } };
+    ghost lawful = { withholding_lawful B.Book.answer B.Book.limit B.Book.lawful };
 
     fn consult(&self, view: View) -> Option<Order> {
-        answer_without(self.order, self.inner.consult(view))
+        self.inner
+            .consult(view)
+            .filter(|given| *given != self.order)
     }
 
     fn limit(&self, order: Order) -> u8 {
