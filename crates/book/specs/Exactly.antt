@@ -1,5 +1,5 @@
 -- The standard book orders exactly when a condition calls.
-use Rattle.std.specs.Prelude.{◌≡◌, Bool, false, ◌≢◌, ◌⊎◌, true, Some, None, Option, refl}
+use Rattle.std.specs.Prelude.{◌≡◌, Bool, false, ◌≢◌, ◌⊎◌, true, Some, Option, refl}
 use Rattle.std.proofs.Common.{arith, sym, ◌∙◌, ap, subst}
 use Rattle.std.specs.Bool.{then_some}
 use Rattle.std.specs.Option.{option_map, option_or}

@@ -5,9 +5,9 @@ use Rattle.vocabulary.specs.declared.order.Order.{Order}
 use Rattle.vocabulary.specs.declared.order.Order.TheVariants.{ToHotStandby, ToDataAvailable}
 use Rattle.book.specs.declared.view.View.{View}
 use Rattle.book.specs.declared.condition.Condition.{Condition}
-use Rattle.book.specs.Orders.{paired, follows, usual_limit}
+use Rattle.book.specs.Orders.{paired, usual_limit}
 use Rattle.book.specs.Standard.{standard_answer}
-use Rattle.book.specs.Conditions.{Calls, configuration_requested, data_entry_requested, cold_standby_requested, level_announced, level_in_force, standby_not_needed, tripped, level_left_for_etcs, level_left_for_another}
+use Rattle.book.specs.Conditions.{Calls}
 use Rattle.book.specs.Exactly.{exactly}
 use Rattle.book.specs.Laws.{Laws}
 

@@ -2,7 +2,6 @@
 use Rattle.std.proofs.Common.{arith}
 use Rattle.std.specs.Prelude.{◌≡◌, true, false, Some}
 use Rattle.vocabulary.specs.declared.state.State.{State}
-use Rattle.vocabulary.specs.declared.state.State.TheVariants.{NoPower, PowerOn, Configuration, DataEntry, ColdStandby, HotStandby, DataAvailable, Failure}
 use Rattle.vocabulary.specs.declared.order.Order.{Order}
 use Rattle.vocabulary.specs.declared.order.Order.TheVariants.{ToHotStandby, ToDataAvailable}
 use Rattle.book.specs.declared.view.View.{View}

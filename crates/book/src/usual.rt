@@ -10,7 +10,8 @@ const LIMIT: u8 = 100;
 // Five seconds.
 const LIMIT_TO_DATA_AVAILABLE: u8 = 50;
 
-// Within how many ticks an order has to be answered.
+// Within how many ticks an order has to be answered. Each book that has these limits calls it: as the
+// trait's default it is not proved, since there the book's own limit is not known.
 pub(crate) fn usual_limit(order: Order) -> u8
     ensures { result ≡ usual_limit order }
 {
