@@ -1,5 +1,5 @@
 -- What the parts of a view mean.
-use Rattle.std.specs.Prelude.{ℕ, cond, List, [], ◌∷◌, ◌==◌}
+use Rattle.std.specs.Prelude.{ℕ, cond, List, [], ◌∷◌, codes, ◌==◌}
 use Rattle.vocabulary.specs.declared.level.Level.{Level}
 use Rattle.vocabulary.specs.declared.level.Level.TheVariants.{Zero, Ntc, One, Two, Three}
 use Rattle.book.specs.declared.view.Want.{Want}
@@ -12,6 +12,12 @@ abbrev pub want_number : Want → ℕ
 want_number Configuration = 2
 want_number DataEntry = 3
 want_number ColdStandby = 4
+
+-- What a want is called: as the state asked for.
+abbrev pub want_name : Want → List ℕ
+want_name Configuration = codes "CO"
+want_name DataEntry = codes "DE"
+want_name ColdStandby = codes "CS"
 
 -- All wants.
 abbrev pub wants : List Want

@@ -1,8 +1,10 @@
 // What a book sees of one STM.
-ghost use Rattle.std.specs.Prelude.{◌≡◌};
+ghost use Rattle.std.specs.Prelude.{◌≡◌, Some};
+ghost use Rattle.std.specs.Fmt.{padded};
 ghost use Rattle.vocabulary.specs.Numbers.{case_of, Names};
-ghost use Rattle.book.specs.Views.{want_number, wants, level_seen};
+ghost use Rattle.book.specs.Views.{want_number, want_name, wants, level_seen};
 
+use std::fmt;
 use vocabulary::level::Level;
 use vocabulary::mode::Mode;
 use vocabulary::order::Order;
@@ -39,6 +41,21 @@ impl Want {
             4 => Some(Want::ColdStandby),
             _ => None,
         }
+    }
+}
+
+// A want prints the name of the state that was asked for.
+impl fmt::Display for Want {
+    ghost output = { λ want. Some (want_name want) };
+
+    ghost styled_output = { λ want spec. Some (padded spec (want_name want)) };
+
+    fn fmt<W: fmt::Write>(&self, f: &mut fmt::Formatter<W>) -> fmt::Result {
+        f.pad(match self {
+            Want::Configuration => "CO",
+            Want::DataEntry => "DE",
+            Want::ColdStandby => "CS",
+        })
     }
 }
 

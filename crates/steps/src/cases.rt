@@ -3,17 +3,10 @@ ghost use Rattle.std.specs.Prelude.{◌≡◌, length};
 ghost use Rattle.std.specs.List.{AllByRecursion};
 ghost use Rattle.steps.specs.Cases.{cases, Holds};
 
-// How many there are.
-fn count() -> usize
-    ensures { result ≡ length cases }
-{
-    8
-}
-
 // How many worked cases there are. Every one of them holds.
 pub fn worked_cases() -> usize
     ensures count { result ≡ length cases }
     ensures hold { AllByRecursion Holds cases }
 {
-    count()
+    8
 }

@@ -1,5 +1,5 @@
 use Rattle.steps.proofs.Worked.{all}
 use Rattle.steps.proofs.cases.worked_cases.Goals as goal
 
-pub returns : goal.returns
-returns c = record { count = c.count.ensures; hold = all }
+pub returns-clause-hold : goal.returns-clause-hold
+returns-clause-hold c = all
