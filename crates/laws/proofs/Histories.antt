@@ -17,7 +17,7 @@ use Rattle.wire.specs.Packets.{Content}
 use Rattle.steps.specs.Rows.{is_failure}
 use Rattle.steps.specs.Setups.{Setup, number_at}
 use Rattle.steps.specs.Settling.{Settled, ended, settle}
-use Rattle.steps.specs.Calls.{Call, connect, message, lost, status, announce, train_data, tick, run, power_off, Step, connected, heard_from, lost_plainly, lost_finally, status_set, announcement_set, train_data_set, tick_passed, settled, powered_off, refused, first_of, is_unknown, connect_checks, lost_checks, message_checks, message_steps, is_national, status_steps, steps_of}
+use Rattle.steps.specs.Calls.{Call, connect, message, lost, status, announce, train_data, tick, run, power_off, Step, connected, heard_from, lost_plainly, lost_finally, status_set, announcement_set, train_data_set, tick_passed, settled, powered_off, refused, first_of, is_unknown, connect_checks, lost_checks, message_checks, message_steps, announced_by, is_national, status_steps, steps_of}
 use Rattle.steps.specs.Moments.{Moment, acted, surroundings_by, ends_settling, moment_of, moments_of}
 use Rattle.steps.specs.Exchanges.{plus_counts, counts_in, added_in, rows_behind}
 use Rattle.steps.specs.declared.counts.Counts.{Counts}
@@ -250,7 +250,7 @@ status_valid ns (Some l) None b n ws e = absurd (err_ok _ ws e)
 status_valid ns (Some l) (Some m) false n ws e = absurd (err_ok _ ws e)
 status_valid ns (Some l) (Some m) true n ws e = valid_to ns (status_set l n m ∷ []) ws (same_ok (status_set l n m ∷ []) ws e) (tt, tt)
 
-announce_valid : (ns : List ℕ) (b : Bool) (n : ℕ) (ws : List Step) → ◌≡◌ {A = Result (List Step) Fault} (cond b (Ok (announcement_set n ∷ [])) (Err (refused refusal.Range))) (Ok ws) → AllValid ns ws
+announce_valid : (ns : List ℕ) (b : Bool) (n : Option ℕ) (ws : List Step) → ◌≡◌ {A = Result (List Step) Fault} (cond b (Ok (announcement_set n ∷ [])) (Err (refused refusal.Range))) (Ok ws) → AllValid ns ws
 announce_valid ns true n ws e = valid_to ns (announcement_set n ∷ []) ws (same_ok (announcement_set n ∷ []) ws e) (tt, tt)
 announce_valid ns false n ws e = absurd (err_ok _ ws e)
 
@@ -261,7 +261,7 @@ steps_valid a rows (lost n final) ws e =
     let k = cond final (lost_finally n) (lost_plainly n) ∷ [] in
     let q = known a n refusal.UnknownStm (drop 1 (lost_checks a rows n final)) k ws e in valid_to a.numbers k ws q.1 (lost_valid a.numbers n final q.0)
 steps_valid a rows (status l n m) ws e = status_valid a.numbers (case_of level_number levels l) (case_of mode_number modes m) (is_national l n) n ws e
-steps_valid a rows (announce n) ws e = announce_valid a.numbers (leb n 254) n ws e
+steps_valid a rows (announce n) ws e = announce_valid a.numbers (leb n 254) (announced_by n) ws e
 steps_valid a rows (train_data b) ws e = valid_to a.numbers (train_data_set b ∷ []) ws (same_ok (train_data_set b ∷ []) ws e) (tt, tt)
 steps_valid a rows tick ws e = valid_to a.numbers (tick_passed ∷ []) ws (same_ok (tick_passed ∷ []) ws e) (tt, tt)
 steps_valid a rows (run k) ws e = valid_to a.numbers (replicate k tick_passed) ws (same_ok (replicate k tick_passed) ws e) (run_valid a.numbers k)

@@ -40,7 +40,7 @@ pub data Step : Type 0 where
   lost_plainly : ℕ → Step
   lost_finally : ℕ → Step
   status_set : Level → ℕ → Mode → Step
-  announcement_set : ℕ → Step
+  announcement_set : Option ℕ → Step
   train_data_set : Bool → Step
   tick_passed : Step
   settled : Step
@@ -136,13 +136,17 @@ status_steps (Some l) None fits n = out_of_range
 status_steps (Some l) (Some m) false n = out_of_range
 status_steps (Some l) (Some m) true n = Ok (status_set l n m ∷ [])
 
+-- The number that a call announces; 0 takes the announcement back.
+abbrev pub announced_by : ℕ → Option ℕ
+announced_by n = cond (n == 0) None (Some n)
+
 -- What a call comes to: its smallest steps, or the fault that refuses it. A message is read first.
 abbrev pub steps_of : Agreed → List Row → Call → Result (List Step) Fault
 steps_of a rows (connect n) = unless (first_of (connect_checks a rows n)) (Ok (connected n ∷ []))
 steps_of a rows (message octets) = message_steps a rows (read_message a.trip octets)
 steps_of a rows (lost n final) = unless (first_of (lost_checks a rows n final)) (Ok (cond final (lost_finally n) (lost_plainly n) ∷ []))
 steps_of a rows (status l n m) = status_steps (case_of level_number levels l) (case_of mode_number modes m) (is_national l n) n
-steps_of a rows (announce n) = cond (nat_le n 254) (Ok (announcement_set n ∷ [])) out_of_range
+steps_of a rows (announce n) = cond (nat_le n 254) (Ok (announcement_set (announced_by n) ∷ [])) out_of_range
 steps_of a rows (train_data valid) = Ok (train_data_set valid ∷ [])
 steps_of a rows tick = Ok (tick_passed ∷ [])
 steps_of a rows (run k) = Ok (replicate k tick_passed)

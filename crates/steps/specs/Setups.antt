@@ -1,5 +1,5 @@
 -- What a control is made with, and what it keeps besides its rows.
-use Rattle.std.specs.Prelude.{ℕ, zero, suc, false, cond, List, [], ◌∷◌, length, replicate, Option, ◌==◌, slice_index, slice_index_or}
+use Rattle.std.specs.Prelude.{ℕ, zero, suc, false, cond, List, [], ◌∷◌, length, replicate, None, Option, ◌==◌, slice_index, slice_index_or}
 use Rattle.vocabulary.specs.Settings.{Agreed}
 use Rattle.vocabulary.specs.declared.level.Level.TheVariants as level
 use Rattle.vocabulary.specs.declared.mode.Mode.TheVariants as mode
@@ -38,4 +38,4 @@ abbrev pub fresh_rows : Agreed → List Row
 fresh_rows s = replicate (length s.numbers) fresh_row
 
 abbrev pub fresh_surroundings : Surroundings
-fresh_surroundings = record { level = level.Zero; mode = mode.StandBy; national = 0; announced = 0; train_data = false }
+fresh_surroundings = record { level = level.Zero; mode = mode.StandBy; national = 0; announced = None; train_data = false }

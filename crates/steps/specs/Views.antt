@@ -1,11 +1,16 @@
 -- What the book is shown of a unit.
-use Rattle.std.specs.Prelude.{ℕ, ◌||◌, List, ◌==◌}
+use Rattle.std.specs.Prelude.{ℕ, Bool, false, ◌||◌, List, Some, None, Option, ◌==◌}
 use Rattle.vocabulary.specs.declared.state.State.TheVariants.{HotStandby, DataAvailable}
 use Rattle.book.specs.Views.{level_seen}
 use Rattle.book.specs.declared.view.View.{View}
 use Rattle.steps.specs.Rows.{order_in, some_at}
 use Rattle.steps.specs.declared.row.Row.{Row}
 use Rattle.steps.specs.declared.surroundings.Surroundings.{Surroundings}
+
+-- Whether the level announced, if one is, is that of the unit with a number.
+abbrev pub is_announced : Option ℕ → ℕ → Bool
+is_announced None number = false
+is_announced (Some n) number = n == number
 
 -- The view of the unit with a number, whose row stands between others: what it holds, wants and has
 -- open, and what the surroundings and the other rows are to it.
@@ -17,7 +22,7 @@ view_of s number before r behind = record {
   train_data = s.train_data;
   level = level_seen s.level s.national number;
   mode = s.mode;
-  announced = (s.announced == number);
+  announced = is_announced s.announced number;
   other_at_hs = some_at HotStandby before || some_at HotStandby behind;
   other_at_da = some_at DataAvailable before || some_at DataAvailable behind;
 }

@@ -7,10 +7,11 @@ use vocabulary::mode::Mode;
 pub struct Surroundings {
     pub level: Level,
     pub mode: Mode,
-    // Whose level it is, at level NTC; else 0.
+    // Whose level it is, at level NTC; else 0. A status gives it as a number of its own and STM-5 bears
+    // the level alone, so a level that held it would be taken apart wherever it is used.
     pub national: u8,
-    // Whose level is announced; 0 for none.
-    pub announced: u8,
+    // Whose level is announced, if one is.
+    pub announced: Option<u8>,
     // Whether the train data is valid.
     pub train_data: bool,
 }
