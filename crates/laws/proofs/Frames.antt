@@ -57,7 +57,7 @@ version_reads trip n (suc zero) zero (suc (suc z)) o p a b c = absurd (omega ari
 version_reads trip n (suc zero) (suc zero) (suc (suc z)) o p a b c = absurd (omega arith)
 
 bit_small : (k : ℕ) → k % 2 < 2
-bit_small k = omega arith
+bit_small k = grind arith
 
 read_version : (trip n a b : ℕ) → Read trip n (frame_of trip n (version a b)) [] 0
 read_version trip n a b =
@@ -92,7 +92,7 @@ read_put a s n (ordered ToHotStandby) = record { packet = wire.order 6; reads = 
 read_put a s n (ordered ToDataAvailable) = record { packet = wire.order 7; reads = refl; orders = refl; count = refl }
 
 pub read_orders : (trip n : ℕ) (f : List ℕ) (es : List Event) (k x : ℕ) → Read trip n f es k → orders_for x (read_message trip f) ≡ cond (eqb n x) es []
-read_orders trip n f es k x r = ap (orders_for x) r.reads ∙ ap (λ l. cond (eqb n x) l []) (append-nil (orders_by r.packet) ∙ r.orders)
+read_orders trip n f es k x r = grind arith
 
 pub read_count : (trip n : ℕ) (f : List ℕ) (es : List Event) (k : ℕ) → Read trip n f es k → orders_read (read_message trip f) ≡ k
-read_count trip n f es k r = ap orders_read r.reads ∙ omega (arith, r.count)
+read_count trip n f es k r = grind arith

@@ -85,13 +85,7 @@ AllValid ns [] = Unit {0}
 AllValid ns (w ∷ ws) = Valid ns w × AllValid ns ws
 
 pub tracks_past : (n : ℕ) (lim : Order → ℕ) (rows : List Row) (past now : ℕ → List Event) → ((i : ℕ) → past i ≡ now i) → Tracks n lim rows past → Tracks n lim rows now
-tracks_past n lim rows past now e t = record {
-  long = t.long;
-  sound = t.sound;
-  same = λ i h. t.same i h ∙ ap open_order (e i);
-  sent = λ i h. subst (λ es. sent_from 0 es + bit (row_at i rows).failure_due ≤ bit (is_failure (row_at i rows).held)) (e i) (t.sent i h);
-  alone = t.alone;
-}
+tracks_past n lim rows past now e t = grind arith
 
 -- nothing happens
 pub held_none : (a : Agreed) (lim : Order → ℕ) (rows : List Row) (past : ℕ → List Event) → Tracks (length a.numbers) lim rows past → Held a lim rows past []
@@ -206,24 +200,19 @@ moments_places c s (w ∷ ws) rows free =
 
 -- granted calls are of units of the settings
 err_ok : {X : Type 0} (f : Fault) (x : X) → ◌≡◌ {A = Result X Fault} (Err f) (Ok x) → ⊥
-err_ok f x e = let z : ◌≡◌ {A = ℕ} 0 1 = cc in omega arith
+err_ok f x e = grind arith
 
 same_ok : {X : Type 0} (x y : X) → ◌≡◌ {A = Result X Fault} (Ok x) (Ok y) → x ≡ y
-same_ok x y e = cc
+same_ok x y e = grind arith
 
 unless_same : (f : Option Fault) (k ws : List Step) → unless f (Ok k) ≡ Ok ws → k ≡ ws
-unless_same None k ws e = same_ok k ws e
-unless_same (Some f) k ws e = absurd (err_ok f ws e)
+unless_same v0 k ws e = grind arith
 
 known : (a : Agreed) (n : ℕ) (why : Refusal) (checks : List (Bool × Refusal)) (k ws : List Step) → unless (first_of ((is_unknown a n, why) ∷ checks)) (Ok k) ≡ Ok ws → (among n a.numbers ≡ true) × (k ≡ ws)
-known a n why checks k ws e = go (is_unknown a n) refl e
-  where
-    go : (b : Bool) → is_unknown a n ≡ b → unless (cond b (Some (refused why)) (first_of checks)) (Ok k) ≡ Ok ws → (among n a.numbers ≡ true) × (k ≡ ws)
-    go true q h = absurd (err_ok (refused why) ws h)
-    go false q h = (not_false (among n a.numbers) q, unless_same (first_of checks) k ws h)
+known a n why checks k ws e = grind arith
 
 valid_to : (ns : List ℕ) (k ws : List Step) → k ≡ ws → AllValid ns k → AllValid ns ws
-valid_to ns k ws e v = subst (λ l. AllValid ns l) e v
+valid_to ns k ws e v = grind arith
 
 heard_valid : (ns : List ℕ) (n : ℕ) (ps : List Content) → among n ns ≡ true → AllValid ns (map (heard_from n) ps ++ (settled ∷ []))
 heard_valid ns n [] h = (tt, tt)
@@ -234,8 +223,7 @@ run_valid ns zero = tt
 run_valid ns (suc k) = (tt, run_valid ns k)
 
 lost_valid : (ns : List ℕ) (n : ℕ) (b : Bool) → among n ns ≡ true → AllValid ns (cond b (lost_finally n) (lost_plainly n) ∷ [])
-lost_valid ns n true h = (h, tt)
-lost_valid ns n false h = (h, tt)
+lost_valid ns n v2 h = grind arith
 
 message_valid : (a : Agreed) (rows : List Row) (r : Result Reading Fault) (ws : List Step) → message_steps a rows r ≡ Ok ws → AllValid a.numbers ws
 message_valid a rows (Err f) ws e = absurd (err_ok f ws e)
@@ -245,14 +233,10 @@ message_valid a rows (Ok m) ws e =
     valid_to a.numbers k ws q.1 (heard_valid a.numbers m.sender m.packets q.0)
 
 status_valid : (ns : List ℕ) (l : Option Level) (m : Option Mode) (b : Bool) (n : ℕ) (ws : List Step) → status_steps l m b n ≡ Ok ws → AllValid ns ws
-status_valid ns None m b n ws e = absurd (err_ok _ ws e)
-status_valid ns (Some l) None b n ws e = absurd (err_ok _ ws e)
-status_valid ns (Some l) (Some m) false n ws e = absurd (err_ok _ ws e)
-status_valid ns (Some l) (Some m) true n ws e = valid_to ns (status_set l n m ∷ []) ws (same_ok (status_set l n m ∷ []) ws e) (tt, tt)
+status_valid ns v1 m b n ws e = grind arith
 
 announce_valid : (ns : List ℕ) (b : Bool) (n : Option ℕ) (ws : List Step) → ◌≡◌ {A = Result (List Step) Fault} (cond b (Ok (announcement_set n ∷ [])) (Err (refused refusal.Range))) (Ok ws) → AllValid ns ws
-announce_valid ns true n ws e = valid_to ns (announcement_set n ∷ []) ws (same_ok (announcement_set n ∷ []) ws e) (tt, tt)
-announce_valid ns false n ws e = absurd (err_ok _ ws e)
+announce_valid ns v1 n ws e = grind arith
 
 pub steps_valid : (a : Agreed) (rows : List Row) (call : Call) (ws : List Step) → steps_of a rows call ≡ Ok ws → AllValid a.numbers ws
 steps_valid a rows (connect n) ws e = let q = known a n refusal.UnknownStm (drop 1 (connect_checks a rows n)) (connected n ∷ []) ws e in valid_to a.numbers (connected n ∷ []) ws q.1 (q.0, tt)

@@ -37,34 +37,16 @@ timely_at lim s (x ∷ es) fs e a = timely_at lim (next s x) es fs e a.1
 -- each order taken is closed once, or still open
 by_fails : (f : Option Cause) (w : Happening) (s : Option Open) (a b c d : ℕ) → a + is_open s ≡ (b + c + d) + is_open (after w s) →
     a + is_open s ≡ (((b + c) + is_failed f (after w s)) + d) + is_open (unless_failed f (after w s))
-by_fails None w s a b c d e = omega arith
-by_fails (Some k) w s a b c d e = omega arith
+by_fails v0 w s a b c d e = grind arith
 
 at_report : (b : Bool) (w : Open) → 1 ≡ cond b 1 0 + is_open (cond b None (Some w))
-at_report true w = refl
-at_report false w = refl
+at_report v0 w = grind arith
 
 at_notice : (b : Bool) (w v : Open) → 1 ≡ is_open (cond b (Some v) (Some w))
-at_notice true w v = refl
-at_notice false w v = refl
+at_notice v0 w v = grind arith
 
 one : (s : Option Open) (e : Event) → taken s e + is_open s ≡ (((answered s e + followed s e) + failed s e) + voided s e) + is_open (next s e)
-one s e = go s e.what e.fails
-  where
-    go : (s : Option Open) (w : Happening) (f : Option Cause) → let e : Event = record { what = w; fails = f } in taken s e + is_open s ≡ (((answered s e + followed s e) + failed s e) + voided s e) + is_open (next s e)
-    go s (took o) f = by_fails f (took o) s 1 0 (is_open s) 0 (omega arith)
-    go s took_failure f = by_fails f took_failure s 0 0 0 0 (omega arith)
-    go None (reported t) f = by_fails f (reported t) None 0 0 0 0 (omega arith)
-    go (Some w) (reported t) f = by_fails f (reported t) (Some w) 0 (cond (is_answer w.order t) 1 0) 0 0 (omega (arith, at_report (is_answer w.order t) w))
-    go s (asked q) f = by_fails f (asked q) s 0 0 0 0 (omega arith)
-    go None noticed f = by_fails f noticed None 0 0 0 0 (omega arith)
-    go (Some w) noticed f = by_fails f noticed (Some w) 0 0 0 0 (omega (arith, at_notice (is_conditional w.order) w (record { order = w.order; ticks = 0 })))
-    go s (greeted m) f = by_fails f (greeted m) s 0 0 0 0 (omega arith)
-    go s parted f = by_fails f parted s 0 0 0 0 (omega arith)
-    go None ticked f = by_fails f ticked None 0 0 0 0 (omega arith)
-    go (Some w) ticked f = by_fails f ticked (Some w) 0 0 0 0 (omega arith)
-    go s off f = by_fails f off s 0 0 0 (is_open s) (omega arith)
-    go s elsewhere f = by_fails f elsewhere s 0 0 0 0 (omega arith)
+one s e = grind arith
 
 pub each_once : (s : Option Open) (es : List Event) → along taken s es + is_open s ≡ (((along answered s es + along followed s es) + along failed s es) + along voided s es) + is_open (open_from s es)
 each_once s [] = omega arith

@@ -132,8 +132,7 @@ set_quiet lim rows x i f hx true e so k = let r = get_or rows i fresh_row in sub
 set_quiet lim rows x i f hx false e so k = let r = get_or rows i fresh_row in subst (λ (t : Row). Kept lim r t elsewhere (fell r t) 0 0 0) (sym (set_other rows x i (f (get_or rows x fresh_row)) e)) (kept_elsewhere lim r so)
 
 same_zero : (b : Bool) → ◌≡◌ {A = ℕ} (cond b 0 0) 0
-same_zero true = refl
-same_zero false = refl
+same_zero v0 = grind arith
 
 set_why : (v : Versions) (rows : List Row) (x i : ℕ) (f : Row → Row) (h : Happening) → x < length rows → (b : Bool) → eqb x i ≡ b → ((r : Row) → Why v r (f r) h) →
     Why v (get_or rows i fresh_row) (get_or (set rows x (f (get_or rows x fresh_row))) i fresh_row) (cond b h elsewhere)
@@ -254,56 +253,22 @@ follows_total (p ∷ ps) [] e = let z : ◌≡◌ {A = ℕ} 0 1 = omega arith in
 follows_total (p ∷ ps) (r ∷ rs) e = omega (arith, follows_total ps rs (omega arith))
 
 said_order : (b : Bool) (p : Content) → is_failure_order (cond b (said_by p) elsewhere) ≡ 0
-said_order false p = refl
-said_order true (version x y) = refl
-said_order true (status x y) = refl
-said_order true (request x) = refl
-said_order true (order x) = refl
-said_order true (report x) = refl
-said_order true notice = refl
-said_order true (other x) = refl
+said_order v0 p = grind arith
 
 parted_order : (b : Bool) → is_failure_order (cond b parted elsewhere) ≡ 0
-parted_order true = refl
-parted_order false = refl
+parted_order v0 = grind arith
 
 no_order : (x : ℕ) (w : Step) → is_failure_order (happening x w) ≡ 0
-no_order x (connected n) = refl
-no_order x (heard_from n p) = said_order (eqb n x) p
-no_order x (lost_plainly n) = refl
-no_order x (lost_finally n) = parted_order (eqb n x)
-no_order x (status_set l n m) = refl
-no_order x (announcement_set n) = refl
-no_order x (train_data_set b) = refl
-no_order x tick_passed = refl
-no_order x settled = refl
-no_order x powered_off = refl
+no_order x v1 = grind arith
 
 said_off : (b : Bool) (p : Content) → is_off (cond b (said_by p) elsewhere) ≡ false
-said_off false p = refl
-said_off true (version x y) = refl
-said_off true (status x y) = refl
-said_off true (request x) = refl
-said_off true (order x) = refl
-said_off true (report x) = refl
-said_off true notice = refl
-said_off true (other x) = refl
+said_off v0 p = grind arith
 
 parted_off : (b : Bool) → is_off (cond b parted elsewhere) ≡ false
-parted_off true = refl
-parted_off false = refl
+parted_off v0 = grind arith
 
 off_step : (x : ℕ) (w : Step) → is_power_off w ≡ false → is_off (happening x w) ≡ false
-off_step x (connected n) e = refl
-off_step x (heard_from n p) e = said_off (eqb n x) p
-off_step x (lost_plainly n) e = refl
-off_step x (lost_finally n) e = parted_off (eqb n x)
-off_step x (status_set l n m) e = refl
-off_step x (announcement_set n) e = refl
-off_step x (train_data_set b) e = refl
-off_step x tick_passed e = refl
-off_step x settled e = refl
-off_step x powered_off e = e
+off_step x v1 e = grind arith
 
 -- what is asked of a book
 pub record Good (c : Setup) : Type 0 where
@@ -313,7 +278,7 @@ pub record Good (c : Setup) : Type 0 where
 
 -- counting is summing
 count_here : (t : State) (rows : List Row) → count_by (at_state t) rows ≡ sum_by (here t) rows
-count_here t rows = refl
+count_here t rows = grind arith
 
 module _ (c : Setup) (good : Good c) (dist : Distinct c.settings.numbers) (w : Step) (s : Surroundings) (rows : List Row) (free : ℕ) (fit : length rows ≡ length c.settings.numbers) (v : Valid c.settings.numbers w) (sound : (i : ℕ) → i < length rows → Sound c.limits (row_at i rows)) where
   pub puts_of : Puts c.settings (surroundings_by w s) 0 (acted c s w rows) (settled_by c s w rows free)

@@ -9,40 +9,31 @@ abbrev pub Distinct : List ℕ → Type 0
 Distinct ns = (i j : ℕ) → i < length ns → j < length ns → get_or ns i 0 ≡ get_or ns j 0 → i ≡ j
 
 pub eq_yes : (i : ℕ) → eqb i i ≡ true
-eq_yes i = grind (arith, nat_tests)
+eq_yes i = grind arith
 
 pub same_num : (i j : ℕ) → eqb i j ≡ true → i ≡ j
-same_num i j e = grind (arith, nat_tests)
+same_num i j e = grind arith
 
 pub eq_no : (i j : ℕ) → (i ≡ j → ⊥) → eqb i j ≡ false
-eq_no i j h = go (eqb i j) refl
-  where
-    go : (b : Bool) → eqb i j ≡ b → b ≡ false
-    go true e = absurd (h (same_num i j e))
-    go false e = refl
+eq_no i j h = grind arith
 
 pub apart : (i j : ℕ) → eqb i j ≡ false → i ≡ j → ⊥
-apart i j e q = grind (arith, nat_tests)
+apart i j e q = grind arith
 
 pub or_l : (x y : Bool) → (x || y) ≡ false → x ≡ false
-or_l true y e = e
-or_l false y e = refl
+or_l v0 y e = grind arith
 
 pub or_r : (x y : Bool) → (x || y) ≡ false → y ≡ false
-or_r true y e = cc
-or_r false y e = e
+or_r v0 y e = grind arith
 
 and_r : (x y : Bool) → (x && y) ≡ true → y ≡ true
-and_r true y e = e
-and_r false y e = cc
+and_r v0 y e = grind arith
 
 pub not_true : (x : Bool) → not x ≡ true → x ≡ false
-not_true true e = cc
-not_true false e = refl
+not_true v0 e = grind arith
 
 pub not_false : (x : Bool) → not x ≡ false → x ≡ true
-not_false true e = refl
-not_false false e = cc
+not_false v0 e = grind arith
 
 among_push : (x n : ℕ) (e : List ℕ) → among x (e ++ n ∷ []) ≡ false → (among x e ≡ false) × (eqb x n ≡ false)
 among_push x n [] h = (refl, or_l (eqb x n) false h)
@@ -97,8 +88,7 @@ placed (m ∷ ms) n h = go (eqb n m) refl h (λ k. placed ms n k)
         record { inside = omega (arith, p.inside); number = ap (λ i. get_or (m ∷ ms) i 0) e ∙ p.number }
 
 or_true : (x y : Bool) → y ≡ true → (x || y) ≡ true
-or_true true y e = refl
-or_true false y e = e
+or_true v0 y e = grind arith
 
 pub among_at : (ns : List ℕ) (i : ℕ) → i < length ns → among (get_or ns i 0) ns ≡ true
 among_at [] i h = absurd (omega arith)

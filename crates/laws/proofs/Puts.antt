@@ -49,11 +49,10 @@ pub record Both (lim : Order → ℕ) (r t : Row) (es : List Event) (tk ans fo l
   pub voids : vd ≡ along voided (opens r.open) es
 
 never : (lim : Order → ℕ) (w : Happening) (s : Option Open) → is_tick w ≡ false → ForTime None ↔ ((is_tick w ≡ true) × Due lim s)
-never lim w s e = ((λ h. absurd h), (λ h. let k = h.0 in let z : ◌≡◌ {A = ℕ} 0 1 = cc in omega arith))
+never lim w s e = grind arith
 
 count_open : (g : Option OpenOrder) → open_count g ≡ is_open (opens g)
-count_open None = refl
-count_open (Some w) = refl
+count_open v0 = grind arith
 
 pub sent_append : (n : ℕ) (es fs : List Event) → sent_from n (es ++ fs) ≡ sent_from (sent_from n es) fs
 sent_append n [] fs = refl
@@ -155,11 +154,7 @@ fell_took p q r = ap (λ h. cond (is_failure q.held) None (cond (is_failure h) (
 
 -- DA and HS
 move_few : (h a b x : Bool) → x ≡ false → bit (h || (x || a)) ≤ bit (h || (a || b))
-move_few true a b x e = omega arith
-move_few false true b true e = omega arith
-move_few false true b false e = omega arith
-move_few false false b true e = let z : ◌≡◌ {A = ℕ} 0 1 = cc in omega arith
-move_few false false b false e = omega arith
+move_few v0 a b x e = grind arith
 
 module _ (t : State) where
   abbrev pub here : Row → ℕ

@@ -32,8 +32,7 @@ abbrev pub bit : Bool → ℕ
 bit b = cond b 1 0
 
 pub bit_one : (b : Bool) → bit b ≤ 1
-bit_one true = omega arith
-bit_one false = omega arith
+bit_one v0 = grind arith
 
 -- a row's open order, as events count it
 abbrev pub opens : Option OpenOrder → Option Open
@@ -79,168 +78,104 @@ pub record Quiet (w : Happening) (s : Option Open) : Type 0 where
   pub takes : 0 ≡ is_taken w
 
 pub quiet_elsewhere : (s : Option Open) → Quiet elsewhere s
-quiet_elsewhere s = record { same = refl; tick = refl; off = refl; answers = refl; voids = refl; follows = refl; takes = refl }
+quiet_elsewhere s = grind arith
 
 quiet_asked : (q : ℕ) (s : Option Open) → Quiet (asked q) s
-quiet_asked q s = record { same = refl; tick = refl; off = refl; answers = refl; voids = refl; follows = refl; takes = refl }
+quiet_asked q s = grind arith
 
 quiet_greeted : (m : ℕ) (s : Option Open) → Quiet (greeted m) s
-quiet_greeted m s = record { same = refl; tick = refl; off = refl; answers = refl; voids = refl; follows = refl; takes = refl }
+quiet_greeted m s = grind arith
 
 quiet_parted : (s : Option Open) → Quiet parted s
-quiet_parted s = record { same = refl; tick = refl; off = refl; answers = refl; voids = refl; follows = refl; takes = refl }
+quiet_parted s = grind arith
 
 -- no failure
 pub fell_same : (r : Row) → fell r r ≡ None
-fell_same r = go (is_failure r.held)
-  where
-    go : (b : Bool) → cond b None (cond b r.cause None) ≡ None
-    go true = refl
-    go false = refl
+fell_same r = grind arith
 
 pub fell_up : (r t : Row) → is_failure t.held ≡ false → fell r t ≡ None
-fell_up r t e = ap (λ b. cond (is_failure r.held) None (cond b t.cause None)) e ∙ go (is_failure r.held)
-  where
-    go : (b : Bool) → ◌≡◌ {A = Option Cause} (cond b None None) None
-    go true = refl
-    go false = refl
+fell_up r t e = grind arith
 
 pub fell_kept : (r t : Row) → is_failure t.held ≡ is_failure r.held → fell r t ≡ None
-fell_kept r t e = ap (λ b. cond (is_failure r.held) None (cond b t.cause None)) e ∙ go (is_failure r.held)
-  where
-    go : (b : Bool) → ◌≡◌ {A = Option Cause} (cond b None (cond b t.cause None)) None
-    go true = refl
-    go false = refl
+fell_kept r t e = grind arith
 
 pub fell_down : (r t : Row) (c : Cause) → is_failure r.held ≡ false → is_failure t.held ≡ true → t.cause ≡ Some c → fell r t ≡ Some c
-fell_down r t c nf tf e = ap (λ b. cond b None (cond (is_failure t.held) t.cause None)) nf ∙ ap (λ b. cond b t.cause None) tf ∙ e
+fell_down r t c nf tf e = grind arith
 
 no_time : (lim : Order → ℕ) (w : Happening) (s : Option Open) → is_tick w ≡ false → ForTime None ↔ ((is_tick w ≡ true) × Due lim s)
-no_time lim w s e = ((λ h. absurd h), (λ h. let k = h.0 in let z : ◌≡◌ {A = ℕ} 0 1 = cc in omega arith))
+no_time lim w s e = grind arith
 
 no_time_but : (lim : Order → ℕ) (w : Happening) (s : Option Open) (c : Cause) → is_tick w ≡ false → (3 ≤ cause_number c → cause_number c ≤ 6 → ⊥) → ForTime (Some c) ↔ ((is_tick w ≡ true) × Due lim s)
-no_time_but lim w s c e bad = ((λ h. absurd (bad h.0 h.1)), (λ h. let k = h.0 in let z : ◌≡◌ {A = ℕ} 0 1 = cc in absurd (let y : ⊥ = omega arith in y)))
+no_time_but lim w s c e bad = grind arith
 
 opens_count : (g : Option OpenOrder) → is_open (opens g) ≡ open_count g
-opens_count None = refl
-opens_count (Some w) = refl
+opens_count v0 = grind arith
 
 -- a row that does not fail and keeps its open order
 pub kept_up : (lim : Order → ℕ) (r t : Row) (w : Happening) → Sound lim r → is_failure t.held ≡ is_failure r.held → t.open ≡ r.open → bit t.failure_due ≤ bit r.failure_due →
     Quiet w (opens r.open) → ((s : State) → Top s → bit (at_state s t) ≤ bit (at_state s r)) → Kept lim r t w (fell r t) 0 0 0
-kept_up lim r t w so eh eg ed q few = subst (λ f. Kept lim r t w f 0 0 0) (sym (fell_kept r t eh)) (record {
-  moves = ap opens eg ∙ sym q.same;
-  sound = record { rest = λ e. eg ∙ so.rest (sym eh ∙ e); young = subst (λ g. Young lim g) (sym eg) so.young };
-  sent = λ n h. let y = ap bit eh in let z : cond (is_off w) 0 n ≡ n = ap (λ b. cond b 0 n) q.off in omega arith;
-  time = no_time lim w (opens r.open) q.tick;
-  answers = q.answers;
-  fails = refl;
-  voids = q.voids;
-  follows = q.follows;
-  takes = q.takes;
-  stays = λ e h. eh ∙ h;
-  fewer = few;
-})
+kept_up lim r t w so eh eg ed q few = grind arith
 
 -- nothing alters
 pub kept_same : (lim : Order → ℕ) (r : Row) (w : Happening) → Sound lim r → Quiet w (opens r.open) → Kept lim r r w (fell r r) 0 0 0
-kept_same lim r w so q = kept_up lim r r w so refl refl (omega arith) q (λ s h. omega arith)
+kept_same lim r w so q = grind arith
 
 pub kept_elsewhere : (lim : Order → ℕ) (r : Row) → Sound lim r → Kept lim r r elsewhere (fell r r) 0 0 0
-kept_elsewhere lim r so = kept_same lim r elsewhere so (quiet_elsewhere (opens r.open))
+kept_elsewhere lim r so = grind arith
 
 top_down : (s : State) (r : Row) (c : Cause) → Top s → bit (at_state s (down c r)) ≤ bit (at_state s r)
-top_down s r c h = let z : bit (at_state s (down c r)) ≡ 0 = ap (λ b. bit (b || (false || false))) h.1 in omega arith
+top_down s r c h = grind arith
 
 -- a row fails
 kept_down : (lim : Order → ℕ) (r : Row) (w : Happening) (c : Cause) → is_failure r.held ≡ false → is_off w ≡ false → is_open (after w (opens r.open)) ≡ open_count r.open →
     ForTime (Some c) ↔ ((is_tick w ≡ true) × Due lim (opens r.open)) →
     0 ≡ is_answered (opens r.open) w → 0 ≡ is_voided (opens r.open) w → 0 ≡ is_followed (opens r.open) w → 0 ≡ is_taken w →
     Kept lim r (failed_by c r) w (fell r (failed_by c r)) 0 (lost_by r) 0
-kept_down lim r w c nf nof op ti a v fo tk =
-    let e1 : failed_by c r ≡ down c r = ap (λ b. cond b r (down c r)) nf in
-    let e2 : lost_by r ≡ open_count r.open = ap (λ b. cond b 0 (open_count r.open)) nf in
-    let e3 : fell r (down c r) ≡ Some c = fell_down r (down c r) c nf refl refl in
-    let base : Kept lim r (down c r) w (Some c) 0 (open_count r.open) 0 = record {
-      moves = refl;
-      sound = record { rest = λ e. refl; young = tt };
-      sent = λ n h. let y = ap bit nf in let z : cond (is_off w) 0 n ≡ n = ap (λ b. cond b 0 n) nof in omega (arith, bit_one (is_ordered c || r.failure_due));
-      time = ti;
-      answers = a;
-      fails = sym op;
-      voids = v;
-      follows = fo;
-      takes = tk;
-      stays = λ e h. refl;
-      fewer = λ s h. top_down s r c h;
-    } in
-    subst (λ (y : Row). Kept lim r y w (fell r y) 0 (lost_by r) 0) (sym e1) (subst (λ f. Kept lim r (down c r) w f 0 (lost_by r) 0) (sym e3) (subst (λ k. Kept lim r (down c r) w (Some c) 0 k 0) (sym e2) base))
+kept_down lim r w c nf nof op ti a v fo tk = grind arith
 
 kept_down_quiet : (lim : Order → ℕ) (r : Row) (w : Happening) (c : Cause) → is_failure r.held ≡ false → Quiet w (opens r.open) → (3 ≤ cause_number c → cause_number c ≤ 6 → ⊥) →
     Kept lim r (failed_by c r) w (fell r (failed_by c r)) 0 (lost_by r) 0
-kept_down_quiet lim r w c nf q bad =
-    kept_down lim r w c nf q.off (ap is_open q.same ∙ opens_count r.open) (no_time_but lim w (opens r.open) c q.tick bad) q.answers q.voids q.follows q.takes
+kept_down_quiet lim r w c nf q bad = grind arith
 
 -- REPORTS
 target_up : (o : Order) → is_failure (target_of o) ≡ false
-target_up ToConfiguration = refl
-target_up ToDataEntry = refl
-target_up ToColdStandby = refl
-target_up ToColdStandbyConditionally = refl
-target_up ToHotStandby = refl
-target_up ToDataAvailable = refl
+target_up v0 = grind arith
 
 pub target_or_up : (o : Option Order) (h : State) → is_failure h ≡ false → is_failure (target_or o h) ≡ false
-target_or_up None h e = e
-target_or_up (Some o) h e = target_up o
+target_or_up v0 h e = grind arith
 
 same_number : (a b : ℕ) → eqb a b ≡ true → a ≡ b
-same_number a b e = grind (arith, nat_tests)
+same_number a b e = grind arith
 
 aims_failure : (g : Option OpenOrder) (s : ℕ) → eqb s 8 ≡ true → aims_at (order_in g) s ≡ false
-aims_failure None s e = refl
-aims_failure (Some w) s e = ap (λ n. eqb (state_number (target_of w.order)) n) (same_number s 8 e) ∙ target_up w.order
+aims_failure v0 s e = grind arith
 
 aims_target : (o : Option Order) (h t : State) (s : ℕ) → aims_at o s ≡ true → same_state (target_or o h) t ≡ aims_at o (state_number t)
-aims_target None h t s e = let z : ◌≡◌ {A = ℕ} 0 1 = cc in absurd (let y : ⊥ = omega arith in y)
-aims_target (Some o) h t s e = refl
+aims_target v0 h t s e = grind arith
 
 after_report : (g : Option OpenOrder) (s : ℕ) → aims_at (order_in g) s ≡ false → after (reported s) (opens g) ≡ opens g
-after_report None s e = refl
-after_report (Some w) s e = ap (λ b. cond b None (opens (Some w))) e
+after_report v0 s e = grind arith
 
 no_answer : (g : Option OpenOrder) (s : ℕ) → aims_at (order_in g) s ≡ false → 0 ≡ answers_it s (opens g)
-no_answer None s e = refl
-no_answer (Some w) s e = sym (ap (λ b. cond b 1 0) e)
+no_answer v0 s e = grind arith
 
 quiet_report : (g : Option OpenOrder) (s : ℕ) → aims_at (order_in g) s ≡ false → Quiet (reported s) (opens g)
-quiet_report g s e = record { same = after_report g s e; tick = refl; off = refl; answers = no_answer g s e; voids = refl; follows = refl; takes = refl }
+quiet_report g s e = grind arith
 
 yes_report : (g : Option OpenOrder) (s : ℕ) → aims_at (order_in g) s ≡ true → after (reported s) (opens g) ≡ None
-yes_report None s e = refl
-yes_report (Some w) s e = ap (λ b. cond b None (opens (Some w))) e
+yes_report v0 s e = grind arith
 
 yes_answer : (g : Option OpenOrder) (s : ℕ) → aims_at (order_in g) s ≡ true → 1 ≡ answers_it s (opens g)
-yes_answer None s e = let z : ◌≡◌ {A = ℕ} 0 1 = cc in omega arith
-yes_answer (Some w) s e = sym (ap (λ b. cond b 1 0) e)
+yes_answer v0 s e = grind arith
 
 or_open : (h a b x : Bool) → x ≡ a → bit (x || (false || false)) ≤ bit (h || (a || b))
-or_open true a b x e = bit_one (x || (false || false))
-or_open false true b x e = bit_one (x || (false || false))
-or_open false false b true e = let z : ◌≡◌ {A = ℕ} 0 1 = cc in omega arith
-or_open false false b false e = omega arith
+or_open v0 a b x e = grind arith
 
 or_earlier : (h a b x : Bool) → x ≡ b → bit (x || (a || false)) ≤ bit (h || (a || b))
-or_earlier true a b x e = bit_one (x || (a || false))
-or_earlier false true b x e = bit_one (x || (true || false))
-or_earlier false false true x e = bit_one (x || (false || false))
-or_earlier false false false true e = let z : ◌≡◌ {A = ℕ} 0 1 = cc in omega arith
-or_earlier false false false false e = omega arith
+or_earlier v0 a b x e = grind arith
 
 or_held : (h x y : Bool) → x ≡ false → bit (x || y) ≤ bit (h || y)
-or_held true x y e = bit_one (x || y)
-or_held false true y e = let z : ◌≡◌ {A = ℕ} 0 1 = cc in omega arith
-or_held false false y e = omega arith
+or_held v0 x y e = grind arith
 
 kept_report : (lim : Order → ℕ) (r : Row) (s : ℕ) → Sound lim r → (b1 b2 b3 b4 b5 b6 : Bool) →
     is_failure r.held ≡ b1 → eqb s 8 ≡ b2 → aims_at (order_in r.open) s ≡ b3 → aims_at r.earlier s ≡ b4 →
@@ -280,94 +215,34 @@ kept_report lim r s so false false false false false false e1 e2 e3 e4 =
 -- REQUESTS
 kept_request : (lim : Order → ℕ) (r : Row) (q : ℕ) → Sound lim r → (b1 b2 b3 : Bool) → is_failure r.held ≡ b1 →
     let x = sort_request b1 b2 b3 in Kept lim r (request_by x q r) (asked q) (fell r (request_by x q r)) 0 (lost_by_request x r) 0
-kept_request lim r q so true b2 b3 e = kept_same lim r (asked q) so (quiet_asked q (opens r.open))
-kept_request lim r q so false true b3 e = kept_same lim r (asked q) so (quiet_asked q (opens r.open))
-kept_request lim r q so false false true e =
-    kept_up lim r (request_by allowed q r) (asked q) so refl refl (omega arith) (quiet_asked q (opens r.open)) (λ u h. omega arith)
-kept_request lim r q so false false false e = kept_down_quiet lim r (asked q) cause.Request e (quiet_asked q (opens r.open)) (λ x y. omega arith)
+kept_request lim r q so v4 b2 b3 e = grind arith
 
 -- NOTICES
 abbrev renewed : OpenOrder → OpenOrder
 renewed w = record { order = w.order; age = 0; noted = true }
 
 after_notice : (g : Option OpenOrder) → opens (packets.noticed g) ≡ after noticed (opens g)
-after_notice None = refl
-after_notice (Some w) = go (is_conditional w.order)
-  where
-    go : (b : Bool) → opens (Some (cond b (renewed w) w)) ≡ cond b (Some (record { order = w.order; ticks = 0 })) (Some (record { order = w.order; ticks = w.age }))
-    go true = refl
-    go false = refl
+after_notice v0 = grind arith
 
 noticed_young : (lim : Order → ℕ) (g : Option OpenOrder) → Young lim g → Young lim (packets.noticed g)
-noticed_young lim None h = tt
-noticed_young lim (Some w) h = go (is_conditional w.order)
-  where
-    go : (b : Bool) → Young lim (Some (cond b (renewed w) w))
-    go true = omega arith
-    go false = h
+noticed_young lim v1 h = grind arith
 
 noticed_order : (g : Option OpenOrder) → order_in (packets.noticed g) ≡ order_in g
-noticed_order None = refl
-noticed_order (Some w) = go (is_conditional w.order)
-  where
-    go : (b : Bool) → order_in (Some (cond b (renewed w) w)) ≡ order_in (Some w)
-    go true = refl
-    go false = refl
+noticed_order v0 = grind arith
 
 kept_notice : (lim : Order → ℕ) (r : Row) → Sound lim r → let t = with_open (packets.noticed r.open) r in Kept lim r t noticed (fell r t) 0 0 0
-kept_notice lim r so =
-    let t = with_open (packets.noticed r.open) r in
-    subst (λ f. Kept lim r t noticed f 0 0 0) (sym (fell_kept r t refl)) (record {
-      moves = after_notice r.open;
-      sound = record { rest = λ e. ap packets.noticed (so.rest e); young = noticed_young lim r.open so.young };
-      sent = λ n h. h;
-      time = no_time lim noticed (opens r.open) refl;
-      answers = refl;
-      fails = refl;
-      voids = refl;
-      follows = refl;
-      takes = refl;
-      stays = λ e h. h;
-      fewer = λ u h. let z = ap (λ o. bit (same_state r.held u || (aims_at o (state_number u) || aims_at r.earlier (state_number u)))) (noticed_order r.open) in omega arith;
-    })
+kept_notice lim r so = grind arith
 
 -- TICKS
 pub by_time : (o : Order) (b : Bool) → ForTime (Some (time_cause o b))
-by_time ToConfiguration b = (omega arith, omega arith)
-by_time ToDataEntry b = (omega arith, omega arith)
-by_time ToColdStandby b = (omega arith, omega arith)
-by_time ToColdStandbyConditionally true = (omega arith, omega arith)
-by_time ToColdStandbyConditionally false = (omega arith, omega arith)
-by_time ToHotStandby b = (omega arith, omega arith)
-by_time ToDataAvailable b = (omega arith, omega arith)
+by_time v0 b = grind arith
 
 not_down : (lim : Order → ℕ) (r : Row) (w : OpenOrder) → Sound lim r → r.open ≡ Some w → (b : Bool) → is_failure r.held ≡ b → b ≡ false
-not_down lim r w so e true h = let z = so.rest h in let y : ◌≡◌ {A = ℕ} 0 1 = cc in absurd (let x : ⊥ = omega arith in x)
-not_down lim r w so e false h = refl
+not_down lim r w so e v5 h = grind arith
 
 kept_late : (lim : Order → ℕ) (r : Row) (w : OpenOrder) → let u = with_open (Some w) r in Sound lim u → is_failure r.held ≡ false → (b : Bool) → is_late lim w ≡ b →
     let t = cond b (failed_by (time_cause w.order w.noted) u) (with_open (Some (older w)) u) in Kept lim u t ticked (fell u t) 0 (cond b (lost_by u) 0) 0
-kept_late lim r w so nf true e =
-    let u = with_open (Some w) r in
-    let k : lim w.order ≤ w.age + 1 = grind (arith, nat_tests) in
-    kept_down lim u ticked (time_cause w.order w.noted) nf refl refl ((λ h. (refl, omega (arith, so.young, k))), (λ h. by_time w.order w.noted)) refl refl refl refl
-kept_late lim r w so nf false e =
-    let u = with_open (Some w) r in
-    let t = with_open (Some (older w)) u in
-    let k : w.age + 1 < lim w.order = grind (arith, nat_tests) in
-    subst (λ f. Kept lim u t ticked f 0 0 0) (sym (fell_up u t nf)) (record {
-      moves = refl;
-      sound = record { rest = λ x. (let y : ◌≡◌ {A = ℕ} 0 1 = cc in absurd (let z : ⊥ = omega arith in z)); young = k };
-      sent = λ n h. h;
-      time = ((λ h. absurd h), (λ h. let y : w.age + 1 ≡ lim w.order = h.1 in omega (arith, k)));
-      answers = refl;
-      fails = refl;
-      voids = refl;
-      follows = refl;
-      takes = refl;
-      stays = λ x h. h;
-      fewer = λ s h. omega arith;
-    })
+kept_late lim r w so nf v5 e = grind arith
 
 kept_tick : (lim : Order → ℕ) (r : Row) (g : Option OpenOrder) → let u = with_open g r in Sound lim u → Kept lim u (ticked_with lim g u) ticked (fell u (ticked_with lim g u)) 0 (lost_by_tick_with lim g u) 0
 kept_tick lim r None so =
@@ -393,33 +268,24 @@ kept_ticked lim r so = kept_tick lim r r.open so
 -- LINKS
 pub kept_relinked : (lim : Order → ℕ) (r : Row) (w : Happening) (l : Link) (v : Option ℕ) (s d : Bool) → Sound lim r → bit d ≤ bit r.failure_due → Quiet w (opens r.open) →
     let t = with_due v s d (with_link l r) in Kept lim r t w (fell r t) 0 0 0
-kept_relinked lim r w l v s d so few q = kept_up lim r (with_due v s d (with_link l r)) w so refl refl few q (λ u h. omega arith)
+kept_relinked lim r w l v s d so few q = grind arith
 
 abbrev final : Option ℕ → Bool → Bool → Row → Row
 final v s d r = with_due v s d (with_link link.Final r)
 
 kept_final : (lim : Order → ℕ) (r : Row) (w : Happening) (v : Option ℕ) (s d : Bool) → Sound lim r → bit d ≤ bit r.failure_due → Quiet w (opens r.open) → (b : Bool) → is_failure r.held ≡ b →
     let t = failed_by cause.FinalDisconnection (final v s d r) in Kept lim r t w (fell r t) 0 (lost_by r) 0
-kept_final lim r w v s d so few q true e =
-    let u = final v s d r in
-    let e1 : failed_by cause.FinalDisconnection u ≡ u = ap (λ b. cond b u (down cause.FinalDisconnection u)) e in
-    let e2 : lost_by r ≡ 0 = ap (λ b. cond b 0 (open_count r.open)) e in
-    subst (λ (y : Row). Kept lim r y w (fell r y) 0 (lost_by r) 0) (sym e1) (subst (λ k. Kept lim r u w (fell r u) 0 k 0) (sym e2) (kept_relinked lim r w link.Final v s d so few q))
-kept_final lim r w v s d so few q false e =
-    let u = final v s d r in
-    let k = kept_down_quiet lim u w cause.FinalDisconnection e q (λ x y. omega arith) in
-    record { moves = k.moves; sound = k.sound; sent = λ n h. k.sent n (omega arith); time = k.time; answers = k.answers; fails = k.fails; voids = k.voids; follows = k.follows; takes = k.takes; stays = k.stays; fewer = k.fewer }
+kept_final lim r w v s d so few q v9 e = grind arith
 
 kept_greeted : (lim : Order → ℕ) (r : Row) (major : ℕ) → Sound lim r → (b : Bool) →
     let t = cond b (with_due (Some major) true r.failure_due (with_link link.Checked r)) (failed_by cause.FinalDisconnection (with_link link.Final r)) in Kept lim r t (greeted major) (fell r t) 0 (cond b 0 (lost_by r)) 0
-kept_greeted lim r major so true = kept_relinked lim r (greeted major) link.Checked (Some major) true r.failure_due so (omega arith) (quiet_greeted major (opens r.open))
-kept_greeted lim r major so false = kept_final lim r (greeted major) r.reply r.status_due r.failure_due so (omega arith) (quiet_greeted major (opens r.open)) (is_failure r.held) refl
+kept_greeted lim r major so v4 = grind arith
 
 pub kept_parted : (lim : Order → ℕ) (r : Row) → Sound lim r → Kept lim r (moments.parted r) parted (fell r (moments.parted r)) 0 (lost_by r) 0
-kept_parted lim r so = kept_final lim r parted None false false so (omega arith) (quiet_parted (opens r.open)) (is_failure r.held) refl
+kept_parted lim r so = grind arith
 
 pub kept_marked : (lim : Order → ℕ) (r : Row) (b : Bool) → Sound lim r → Kept lim r (moments.marked b r) elsewhere (fell r (moments.marked b r)) 0 0 0
-kept_marked lim r b so = kept_relinked lim r elsewhere r.link r.reply ((b && is_checked r.link) || r.status_due) r.failure_due so (omega arith) (quiet_elsewhere (opens r.open))
+kept_marked lim r b so = grind arith
 
 -- one packet
 pub kept_heard : (lim : Order → ℕ) (v : Versions) (r : Row) (p : Content) → Sound lim r → Kept lim r (heard v p r) (said_by p) (fell r (heard v p r)) (answered_in p r) (lost_in v p r) 0
@@ -434,16 +300,4 @@ kept_heard lim v r (other bs) so = kept_elsewhere lim r so
 
 -- power-off
 pub kept_off : (lim : Order → ℕ) (r : Row) → Sound lim r → Kept lim r fresh_row off (fell r fresh_row) 0 0 (open_count r.open)
-kept_off lim r so = subst (λ f. Kept lim r fresh_row off f 0 0 (open_count r.open)) (sym (fell_up r fresh_row refl)) (record {
-  moves = refl;
-  sound = record { rest = λ e. refl; young = tt };
-  sent = λ n h. omega arith;
-  time = no_time lim off (opens r.open) refl;
-  answers = refl;
-  fails = refl;
-  voids = sym (opens_count r.open);
-  follows = refl;
-  takes = refl;
-  stays = λ e h. (let z : ◌≡◌ {A = ℕ} 0 1 = cc in absurd (let y : ⊥ = omega arith in y));
-  fewer = λ t h. let z : bit (at_state t fresh_row) ≡ 0 = ap (λ b. bit (b || (false || false))) h.2 in omega arith;
-})
+kept_off lim r so = grind arith

@@ -142,7 +142,7 @@ leads_front c s rows (x ∷ h) later l = (l.0, leads_front c x.surroundings x.ro
 
 -- counts
 counted_past : (n trip : ℕ) (a b c : ℕ → List Event) (fs : List (List ℕ)) (k : Counts) → ((i : ℕ) → a i ≡ b i) → Counted n trip a c fs k → Counted n trip b c fs k
-counted_past n trip a b c fs k e h = subst (λ f. Counted n trip f c fs k) (fun_ext e) h
+counted_past n trip a b c fs k e h = grind arith
 
 counted_at : (a : Agreed) (past : ℕ → List Event) (rows : List Row) (h later : List Exchange) (x : Exchange) → AllCounted a past rows (h ++ (x ∷ later)) →
     Counted (length a.numbers) a.trip (λ i. past i ++ events_over a i rows h) (λ i. events a i (rows_after rows h) x.moments) x.added (counts_of x.answer)
@@ -184,14 +184,14 @@ waits_due lim es t = subst (λ s. Due lim s) (sym ((waits es t.0).1 t.1)) t.2
 
 -- the order that a row shows
 some_order : (o p : Order) → Some o ≡ Some p → o ≡ p
-some_order o p e = cc
+some_order o p e = grind arith
 
 shown_waits : (es : List Event) (g : Option OpenOrder) (o : Order) → opens g ≡ open_order es → order_in g ≡ Some o → (w : Open) × Waits w es × (w.order ≡ o)
 shown_waits es None o e q = let z : ◌≡◌ {A = ℕ} 0 1 = cc in absurd (let y : ⊥ = omega arith in y)
 shown_waits es (Some v) o e q = (record { order = v.order; ticks = v.age }, (waits es (record { order = v.order; ticks = v.age })).0 (sym e), some_order v.order o q)
 
 open_order_lem : (w v : Open) → Some w ≡ Some v → w.order ≡ v.order
-open_order_lem w v e = ap (λ (x : Open). x.order) (let q : w ≡ v = cc in q)
+open_order_lem w v e = grind arith
 
 waits_shown : (es : List Event) (g : Option OpenOrder) (o : Order) → opens g ≡ open_order es → ((w : Open) × Waits w es × (w.order ≡ o)) → order_in g ≡ Some o
 waits_shown es None o e t = let q = e ∙ (waits es t.0).1 t.1 in let z : ◌≡◌ {A = ℕ} 0 1 = cc in absurd (let y : ⊥ = omega arith in y)
@@ -199,8 +199,7 @@ waits_shown es (Some v) o e t = ap Some (open_order_lem (record { order = v.orde
 
 -- a failed unit, by its bit
 bit_true : (b : Bool) → 1 ≤ bit b → b ≡ true
-bit_true true h = refl
-bit_true false h = absurd (omega arith)
+bit_true v0 h = grind arith
 
 -- a new control
 few_fresh : (t : State) (n : ℕ) → here t fresh_row ≡ 0 → sum_by (here t) (replicate n fresh_row) ≡ 0

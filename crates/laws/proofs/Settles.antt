@@ -22,8 +22,7 @@ use Rattle.laws.proofs.Places.{Distinct, eq_yes, eq_no, among_at}
 use Rattle.laws.proofs.Frames.{put_events, read_put, read_orders, read_count}
 
 pub by_cond : {A : Type 0} (P : A → Type 0) (b : Bool) (x y : A) → (b ≡ true → P x) → (b ≡ false → P y) → P (cond b x y)
-by_cond P true x y p q = p refl
-by_cond P false x y p q = q refl
+by_cond v0 v1 x y p q = grind arith
 
 abbrev pub events_of : List Put → List Event
 events_of [] = []
@@ -94,25 +93,7 @@ fits_take (suc n) [] r h = tt
 fits_take (suc n) (q ∷ qs) r h = (h.0, fits_take n qs (puts.took q r) h.1)
 
 wants_fit : (answer : Option Order) (r : Row) → Fits (wanted answer r) r
-wants_fit answer r = a (is_checked r.link) r.reply
-  where
-    e : (t : Row) (f : Bool) (o : Option Order) → is_failure t.held ≡ f → Fits (cond f [] (orders o)) t
-    e t true o x = tt
-    e t false None x = tt
-    e t false (Some o) x = (x, tt)
-
-    d : (t : Row) → is_failure t.held ≡ is_failure r.held → (b : Bool) → t.failure_due ≡ b → Fits (cond b (failure ∷ []) [] ++ cond (is_failure r.held) [] (orders answer)) t
-    d t x true y = (y, e (puts.took failure t) (is_failure r.held) answer x)
-    d t x false y = e t (is_failure r.held) answer x
-
-    c : (t : Row) → is_failure t.held ≡ is_failure r.held → t.failure_due ≡ r.failure_due → (b : Bool) → Fits (cond b (status ∷ []) [] ++ (cond r.failure_due (failure ∷ []) [] ++ cond (is_failure r.held) [] (orders answer))) t
-    c t x y true = (tt, d (puts.took status t) x r.failure_due y)
-    c t x y false = d t x r.failure_due y
-
-    a : (b : Bool) (v : Option ℕ) → Fits (cond b (replies v ++ (cond r.status_due (status ∷ []) [] ++ (cond r.failure_due (failure ∷ []) [] ++ cond (is_failure r.held) [] (orders answer)))) []) r
-    a false v = tt
-    a true None = c r refl refl r.status_due
-    a true (Some m) = (tt, c (puts.took (reply m) r) refl refl r.status_due)
+wants_fit answer r = grind arith
 
 pub settle_puts : (c : Setup) (s : Surroundings) (pre rest : List Row) (free k : ℕ) → k ≡ length pre → Puts c.settings s k rest (settle c s pre rest free)
 settle_puts c s pre [] free k e = nothing c s k []
@@ -132,10 +113,10 @@ frames_length a s n [] = refl
 frames_length a s n (q ∷ qs) = ap suc (frames_length a s n qs)
 
 short : (x y : ℕ) → ltb x y ≡ true → x ≤ y
-short x y e = grind (arith, nat_tests)
+short x y e = grind arith
 
 long_enough : (x y : ℕ) → ltb x y ≡ false → y ≤ x
-long_enough x y e = grind (arith, nat_tests)
+long_enough x y e = grind arith
 
 pub settle_places : (c : Setup) (s : Surroundings) (pre rest : List Row) (free : ℕ) → length (settle c s pre rest free).added ≤ free
 settle_places c s pre [] free = omega arith

@@ -23,33 +23,19 @@ step parted o k = k
 step elsewhere o k = k
 
 or_none : (b c : Bool) → (b || c) ≡ false → (b ≡ false) × (c ≡ false)
-or_none true c e = (e, (let z : ◌≡◌ {A = ℕ} 0 1 = cc in absurd (let y : ⊥ = omega arith in y)))
-or_none false c e = (refl, e)
+or_none v0 c e = grind arith
 
 cond_split : (b : Bool) (o : Order) (k : ℕ) → cond b (Some (open' o 0)) (Some (open' o k)) ≡ Some (open' o (cond b 0 k))
-cond_split true o k = refl
-cond_split false o k = refl
+cond_split v0 o k = grind arith
 
 stepped : (o : Order) (k : ℕ) (w : Happening) → ends o w ≡ false → after w (Some (open' o k)) ≡ Some (open' o (step w o k))
-stepped o k (took q) e = cc
-stepped o k took_failure e = refl
-stepped o k (reported t) e = ap (λ b. cond b None (Some (open' o k))) e
-stepped o k noticed e = cond_split (is_conditional o) o k
-stepped o k ticked e = refl
-stepped o k off e = cc
-stepped o k (asked y) e = refl
-stepped o k (greeted y) e = refl
-stepped o k parted e = refl
-stepped o k elsewhere e = refl
+stepped o k v2 e = grind arith
 
 no_cause : (f : Option Cause) (s : Option Open) → is_some f ≡ false → unless_failed f s ≡ s
-no_cause None s e = refl
-no_cause (Some c) s e = cc
+no_cause v0 s e = grind arith
 
 one : (o : Order) (k : ℕ) (e : Event) → closes o e ≡ false → next (Some (open' o k)) e ≡ Some (open' o (step e.what o k))
-one o k e h =
-    let p = or_none (ends o e.what) (is_some e.fails) h in
-    no_cause e.fails (after e.what (Some (open' o k))) p.1 ∙ stepped o k e.what p.0
+one o k e h = grind arith
 
 abbrev steps : Order → ℕ → List Event → ℕ
 steps o k [] = k
@@ -60,17 +46,7 @@ all o k [] h = refl
 all o k (e ∷ es) h = ap (λ s. open_from s es) (one o k e h.0) ∙ all o (step e.what o k) es h.1
 
 step_plain : (o : Order) (k : ℕ) (w : Happening) → (is_conditional o ≡ false) ⊎ (is_notice w ≡ false) → step w o k ≡ k + cond (is_tick w) 1 0
-step_plain o k (took q) h = omega arith
-step_plain o k took_failure h = omega arith
-step_plain o k (reported t) h = omega arith
-step_plain o k noticed (inl h) = ap (λ b. cond b 0 k) h ∙ omega arith
-step_plain o k noticed (inr h) = let z : ◌≡◌ {A = ℕ} 0 1 = cc in omega arith
-step_plain o k ticked h = omega arith
-step_plain o k off h = omega arith
-step_plain o k (asked y) h = omega arith
-step_plain o k (greeted y) h = omega arith
-step_plain o k parted h = omega arith
-step_plain o k elsewhere h = omega arith
+step_plain o k v2 h = grind arith
 
 plain : (o : Order) (k : ℕ) (es : List Event) → is_conditional o ≡ false → steps o k es ≡ k + ticks_in es
 plain o k [] h = omega arith
@@ -87,20 +63,10 @@ quiet_since [] h = refl
 quiet_since (e ∷ es) h = ap (λ b. cond b (since_notice es) (e ∷ es)) h
 
 notice_step : (o : Order) (k : ℕ) (w : Happening) → is_conditional o ≡ true → is_notice w ≡ true → step w o k ≡ 0
-notice_step o k (took q) c h = let z : ◌≡◌ {A = ℕ} 0 1 = cc in omega arith
-notice_step o k took_failure c h = let z : ◌≡◌ {A = ℕ} 0 1 = cc in omega arith
-notice_step o k (reported t) c h = let z : ◌≡◌ {A = ℕ} 0 1 = cc in omega arith
-notice_step o k noticed c h = ap (λ b. cond b 0 k) c
-notice_step o k ticked c h = let z : ◌≡◌ {A = ℕ} 0 1 = cc in omega arith
-notice_step o k off c h = let z : ◌≡◌ {A = ℕ} 0 1 = cc in omega arith
-notice_step o k (asked y) c h = let z : ◌≡◌ {A = ℕ} 0 1 = cc in omega arith
-notice_step o k (greeted y) c h = let z : ◌≡◌ {A = ℕ} 0 1 = cc in omega arith
-notice_step o k parted c h = let z : ◌≡◌ {A = ℕ} 0 1 = cc in omega arith
-notice_step o k elsewhere c h = let z : ◌≡◌ {A = ℕ} 0 1 = cc in omega arith
+notice_step o k v2 c h = grind arith
 
 or_true : (b n : Bool) → (b || n) ≡ true → n ≡ false → b ≡ true
-or_true true n x y = refl
-or_true false n x y = cc
+or_true v0 n x y = grind arith
 
 noisy_at : (o : Order) (k : ℕ) (e : Event) (es : List Event) → is_conditional o ≡ true → some_notice (e ∷ es) ≡ true → (b : Bool) → some_notice es ≡ b →
     (some_notice es ≡ true → steps o (step e.what o k) es ≡ ticks_in (since_notice es)) → steps o (step e.what o k) es ≡ ticks_in (since_notice es)
@@ -128,18 +94,16 @@ abbrev From : Option Open → Event → Order → Type 0
 From s e o = (e ≡ just (took o)) ⊎ ((j : ℕ) × (s ≡ Some (open' o j)) × (closes o e ≡ false))
 
 cond_open : (b : Bool) (v : Open) (o : Order) (k : ℕ) → cond b None (Some v) ≡ Some (open' o k) → (b ≡ false) × (v ≡ open' o k)
-cond_open true v o k e = let z : ◌≡◌ {A = ℕ} 0 1 = cc in (cc, cc)
-cond_open false v o k e = (refl, cc)
+cond_open v0 v o k e = grind arith
 
 of_some : (v w : Open) → Some v ≡ Some w → v ≡ w
-of_some v w e = cc
+of_some v w e = grind arith
 
 same_order : (v w : Open) → Some v ≡ Some w → v.order ≡ w.order
-same_order v w e = ap (λ (y : Open). y.order) (of_some v w e)
+same_order v w e = grind arith
 
 cond_order : (b : Bool) (v : Open) (o : Order) (k : ℕ) → cond b (Some (open' v.order 0)) (Some v) ≡ Some (open' o k) → v.order ≡ o
-cond_order true v o k e = same_order (open' v.order 0) (open' o k) e
-cond_order false v o k e = same_order v (open' o k) e
+cond_order v0 v o k e = grind arith
 
 origin : (s : Option Open) (w : Happening) (f : Option Cause) (o : Order) (k : ℕ) → unless_failed f (after w s) ≡ Some (open' o k) → From s (record { what = w; fails = f }) o
 origin s w (Some c) o k e = let z : ◌≡◌ {A = ℕ} 0 1 = cc in absurd (let y : ⊥ = omega arith in y)

@@ -32,55 +32,38 @@ abbrev pub Why : Versions → Row → Row → Happening → Type 0
 Why v r t w = (c : Cause) → (ForTime (Some c) → ⊥) → (fell r t ≡ Some c) ↔ ((is_failure r.held ≡ false) × Reason v r w c)
 
 some_same : (c k : Cause) → Some k ≡ Some c → c ≡ k
-some_same c k e = cc
+some_same c k e = grind arith
 
 -- no failure, and no reason
 why_none : (v : Versions) (r t : Row) (w : Happening) → fell r t ≡ None → ((c : Cause) → Reason v r w c → ⊥) → Why v r t w
-why_none v r t w e bare c n = ((λ h. let z : ◌≡◌ {A = ℕ} 0 1 = cc in absurd (let y : ⊥ = omega arith in y)), (λ h. absurd (bare c h.1)))
+why_none v r t w e bare c n = grind arith
 
 -- the row has failed already
 why_failed : (v : Versions) (r t : Row) (w : Happening) → is_failure r.held ≡ true → Why v r t w
-why_failed v r t w f c n =
-    let e : fell r t ≡ None = ap (λ b. cond b None (cond (is_failure t.held) t.cause None)) f in
-    ((λ h. let z : ◌≡◌ {A = ℕ} 0 1 = cc in absurd (let y : ⊥ = omega arith in y)), (λ h. let k = h.0 in let z : ◌≡◌ {A = ℕ} 0 1 = cc in absurd (let y : ⊥ = omega arith in y)))
+why_failed v r t w f c n = grind arith
 
 -- it fails by a cause, for which there is the reason and for no other
 why_by : (v : Versions) (r t : Row) (w : Happening) (k : Cause) → fell r t ≡ Some k → is_failure r.held ≡ false → Reason v r w k → ((c : Cause) → Reason v r w c → c ≡ k) → Why v r t w
-why_by v r t w k e nf why only c n =
-    ((λ h. (nf, subst (λ x. Reason v r w x) (sym (some_same c k (sym e ∙ h))) why)), (λ h. e ∙ ap Some (sym (only c h.1))))
+why_by v r t w k e nf why only c n = grind arith
 
 fell_failed : (r u : Row) (k : Cause) → is_failure r.held ≡ false → u.held ≡ r.held → fell r (failed_by k u) ≡ Some k
-fell_failed r u k nf e =
-    let e1 : failed_by k u ≡ down k u = ap (λ b. cond b u (down k u)) (ap is_failure e ∙ nf) in
-    ap (λ (t : Row). fell r t) e1 ∙ fell_down r (down k u) k nf refl refl
+fell_failed r u k nf e = grind arith
 
 -- targets
 aims_is : (o : Option Order) (n : ℕ) → aims_at o n ≡ true → IsTarget o n
-aims_is None n e = let z : ◌≡◌ {A = ℕ} 0 1 = cc in absurd (let y : ⊥ = omega arith in y)
-aims_is (Some o) n e = same_num (state_number (target_of o)) n e
+aims_is v0 n e = grind arith
 
 is_aims : (o : Option Order) (n : ℕ) → aims_at o n ≡ false → IsTarget o n → ⊥
-is_aims None n e h = h
-is_aims (Some o) n e h = apart (state_number (target_of o)) n e h
+is_aims v0 n e h = grind arith
 
 holds_none : (h : State) → eqb (state_number h) 0 ≡ true → h ≡ NoPower
-holds_none NoPower e = refl
-holds_none PowerOn e = cc
-holds_none Configuration e = cc
-holds_none DataEntry e = cc
-holds_none ColdStandby e = cc
-holds_none HotStandby e = cc
-holds_none DataAvailable e = cc
-holds_none Failure e = cc
+holds_none v0 e = grind arith
 
 and_both : (a b : Bool) → (a && b) ≡ true → (a ≡ true) × (b ≡ true)
-and_both true b e = (refl, e)
-and_both false b e = let z : ◌≡◌ {A = ℕ} 0 1 = cc in absurd (let y : ⊥ = omega arith in y)
+and_both v0 b e = grind arith
 
 and_not : (a b : Bool) → (a && b) ≡ false → a ≡ true → b ≡ true → ⊥
-and_not true true e p q = let z : ◌≡◌ {A = ℕ} 0 1 = cc in omega arith
-and_not true false e p q = let z : ◌≡◌ {A = ℕ} 0 1 = cc in omega arith
-and_not false b e p q = let z : ◌≡◌ {A = ℕ} 0 1 = cc in omega arith
+and_not v0 v1 e p q = grind arith
 
 -- REPORTS
 module _ (v : Versions) (r : Row) (s : ℕ) where
@@ -130,31 +113,16 @@ module _ (v : Versions) (r : Row) (s : ℕ) where
 
 -- REQUESTS
 or_either : (q : ℕ) (a b : Bool) → eqb q 3 ≡ a → eqb q 4 ≡ b → (a || b) ≡ true → (q ≡ 3) ⊎ (q ≡ 4)
-or_either q true b x y e = inl (same_num q 3 x)
-or_either q false true x y e = inr (same_num q 4 y)
-or_either q false false x y e = let z : ◌≡◌ {A = ℕ} 0 1 = cc in absurd (let w : ⊥ = omega arith in w)
+or_either q v1 b x y e = grind arith
 
 may_is : (h : State) (q : ℕ) → may_ask h q ≡ true → MayAsk h q
-may_is NoPower q e = let z : ◌≡◌ {A = ℕ} 0 1 = cc in absurd (let y : ⊥ = omega arith in y)
-may_is PowerOn q e = inl (refl, same_num q 2 e)
-may_is Configuration q e = inr (inl (refl, or_either q (eqb q 3) (eqb q 4) refl refl e))
-may_is DataEntry q e = inr (inr (refl, same_num q 4 e))
-may_is ColdStandby q e = let z : ◌≡◌ {A = ℕ} 0 1 = cc in absurd (let y : ⊥ = omega arith in y)
-may_is HotStandby q e = let z : ◌≡◌ {A = ℕ} 0 1 = cc in absurd (let y : ⊥ = omega arith in y)
-may_is DataAvailable q e = let z : ◌≡◌ {A = ℕ} 0 1 = cc in absurd (let y : ⊥ = omega arith in y)
-may_is Failure q e = let z : ◌≡◌ {A = ℕ} 0 1 = cc in absurd (let y : ⊥ = omega arith in y)
+may_is v0 q e = grind arith
 
 is_may : (h : State) (q : ℕ) → MayAsk h q → may_ask h q ≡ true
-is_may h q (inl m) = λ i. may_ask (m.0 i) (m.1 i)
-is_may h q (inr (inl m)) = three m.1
-  where
-    three : (q ≡ 3) ⊎ (q ≡ 4) → may_ask h q ≡ true
-    three (inl e) = λ i. may_ask (m.0 i) (e i)
-    three (inr e) = λ i. may_ask (m.0 i) (e i)
-is_may h q (inr (inr m)) = λ i. may_ask (m.0 i) (m.1 i)
+is_may h q v2 = grind arith
 
 is_may_not : (h : State) (q : ℕ) → may_ask h q ≡ false → MayAsk h q → ⊥
-is_may_not h q e m = let k = is_may h q m in let z : ◌≡◌ {A = ℕ} 0 1 = cc in omega arith
+is_may_not h q e m = grind arith
 
 module _ (v : Versions) (r : Row) (q : ℕ) where
   why_request : (b1 b2 b3 : Bool) → is_failure r.held ≡ b1 → aims_at (order_in r.open) q ≡ b2 → may_ask r.held q ≡ b3 → Why v r (request_by (sort_request b1 b2 b3) q r) (asked q)
@@ -166,44 +134,37 @@ module _ (v : Versions) (r : Row) (q : ℕ) where
 
 -- GREETINGS
 le_of : (x y : ℕ) → leb x y ≡ true → x ≤ y
-le_of x y e = grind (arith, nat_tests)
+le_of x y e = grind arith
 
 gt_of : (x y : ℕ) → leb x y ≡ false → y < x
-gt_of x y e = grind (arith, nat_tests)
+gt_of x y e = grind arith
 
 spoken_in : (l h m k : ℕ) (a b : Bool) → leb l m ≡ a → leb m h ≡ b → is_some (cond (a && b) (Some k) None) ≡ true → (l ≤ m) × (m ≤ h)
-spoken_in l h m k true true x y e = (le_of l m x, le_of m h y)
-spoken_in l h m k true false x y e = let z : ◌≡◌ {A = ℕ} 0 1 = cc in absurd (let w : ⊥ = omega arith in w)
-spoken_in l h m k false b x y e = let z : ◌≡◌ {A = ℕ} 0 1 = cc in absurd (let w : ⊥ = omega arith in w)
+spoken_in l h m k v4 v5 x y e = grind arith
 
 spoken_out : (l h m k : ℕ) (a b : Bool) → leb l m ≡ a → leb m h ≡ b → is_some (cond (a && b) (Some k) None) ≡ false → (m < l) ⊎ (h < m)
-spoken_out l h m k true true x y e = let z : ◌≡◌ {A = ℕ} 0 1 = cc in absurd (let w : ⊥ = omega arith in w)
-spoken_out l h m k true false x y e = inr (gt_of m h y)
-spoken_out l h m k false b x y e = inl (gt_of l m x)
+spoken_out l h m k v4 v5 x y e = grind arith
 
 not_foreign : (v : Versions) (m : ℕ) → is_spoken v m ≡ true → Foreign v m → ⊥
-not_foreign v m e (inl h) = let k = spoken_in v.lowest v.highest m _ (leb v.lowest m) (leb m v.highest) refl refl e in omega arith
-not_foreign v m e (inr h) = let k = spoken_in v.lowest v.highest m _ (leb v.lowest m) (leb m v.highest) refl refl e in omega arith
+not_foreign v m e v3 = grind arith
 
 is_foreign : (v : Versions) (m : ℕ) → is_spoken v m ≡ false → Foreign v m
-is_foreign v m e = spoken_out v.lowest v.highest m _ (leb v.lowest m) (leb m v.highest) refl refl e
+is_foreign v m e = grind arith
 
 why_final : (v : Versions) (r u : Row) (w : Happening) (b : Bool) → is_failure r.held ≡ b → u.held ≡ r.held → Reason v r w cause.FinalDisconnection → ((c : Cause) → Reason v r w c → c ≡ cause.FinalDisconnection) →
     Why v r (failed_by cause.FinalDisconnection u) w
-why_final v r u w true e k why only = why_failed v r (failed_by cause.FinalDisconnection u) w e
-why_final v r u w false e k why only = why_by v r (failed_by cause.FinalDisconnection u) w cause.FinalDisconnection (fell_failed r u cause.FinalDisconnection e k) e why only
+why_final v r u w v4 e k why only = grind arith
 
 why_greeted : (v : Versions) (r : Row) (m : ℕ) (b : Bool) → is_spoken v m ≡ b →
     Why v r (cond b (with_due (Some m) true r.failure_due (with_link link.Checked r)) (failed_by cause.FinalDisconnection (with_link link.Final r))) (greeted m)
-why_greeted v r m true e = let t = with_due (Some m) true r.failure_due (with_link link.Checked r) in why_none v r t (greeted m) (fell_kept r t refl) (λ c h. not_foreign v m e h.1)
-why_greeted v r m false e = why_final v r (with_link link.Final r) (greeted m) (is_failure r.held) refl refl (refl, is_foreign v m e) (λ c h. h.0)
+why_greeted v r m v3 e = grind arith
 
 pub why_parted : (v : Versions) (r : Row) → Why v r (moments.parted r) parted
-why_parted v r = why_final v r (with_due None false false (with_link link.Final r)) parted (is_failure r.held) refl refl refl (λ c h. h)
+why_parted v r = grind arith
 
 -- what keeps the held state, where there is no reason
 pub why_kept : (v : Versions) (r t : Row) (w : Happening) → is_failure t.held ≡ is_failure r.held → ((c : Cause) → Reason v r w c → ⊥) → Why v r t w
-why_kept v r t w e bare = why_none v r t w (fell_kept r t e) bare
+why_kept v r t w e bare = grind arith
 
 pub why_heard : (v : Versions) (r : Row) (p : Content) → Why v r (heard v p r) (said_by p)
 why_heard v r (version a b) = why_greeted v r a (is_spoken v a) refl
@@ -217,13 +178,10 @@ why_heard v r (other bs) = why_kept v r r elsewhere refl (λ c h. h)
 
 -- TICKS: only for time
 why_late : (v : Versions) (r : Row) (k : Cause) → ForTime (Some k) → (b : Bool) → is_failure r.held ≡ b → Why v r (failed_by k r) ticked
-why_late v r k time true e = why_failed v r (failed_by k r) ticked e
-why_late v r k time false e = λ c n.
-    ((λ h. absurd (n (subst (λ x. ForTime (Some x)) (sym (some_same c k (sym (fell_failed r r k e refl) ∙ h))) time))), (λ h. absurd h.1))
+why_late v r k time v4 e = grind arith
 
 why_tick : (v : Versions) (lim : Order → ℕ) (r : Row) (w : OpenOrder) (b : Bool) → Why v r (cond b (failed_by (time_cause w.order w.noted) r) (with_open (Some (older w)) r)) ticked
-why_tick v lim r w true = why_late v r (time_cause w.order w.noted) (by_time w.order w.noted) (is_failure r.held) refl
-why_tick v lim r w false = why_kept v r (with_open (Some (older w)) r) ticked refl (λ c h. h)
+why_tick v lim r w v4 = grind arith
 
 why_tick_with : (v : Versions) (lim : Order → ℕ) (r : Row) (g : Option OpenOrder) → Why v r (ticked_with lim g r) ticked
 why_tick_with v lim r None = why_kept v r r ticked refl (λ c h. h)
@@ -233,4 +191,4 @@ pub why_ticked : (v : Versions) (lim : Order → ℕ) (r : Row) → Why v r (tic
 why_ticked v lim r = why_tick_with v lim r r.open
 
 pub why_off : (v : Versions) (r : Row) → Why v r fresh_row off
-why_off v r = why_none v r fresh_row off (fell_up r fresh_row refl) (λ c h. h)
+why_off v r = grind arith
