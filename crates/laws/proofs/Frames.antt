@@ -1,5 +1,5 @@
 -- The frames that the control sends, read.
-use Rattle.std.proofs.Common.{◌≡◌, ℕ, zero, suc, ◌/◌, ◌%◌, ◌<◌, cond, eqb, List, [], ◌∷◌, get_or, Ok, Err, Result, refl, ap, ◌∙◌, append-nil, arith}
+use Rattle.std.proofs.Common.{◌≡◌, ℕ, zero, suc, ◌/◌, ◌%◌, ◌<◌, cond, eqb, List, [], ◌∷◌, get_or, Ok, Err, Result, refl, arith}
 use Rattle.std.specs.Int.Digits.{number_from_digits}
 use Rattle.vocabulary.specs.Settings.{Agreed}
 use Rattle.vocabulary.specs.declared.fault.Fault.{Fault}

@@ -1,5 +1,5 @@
 -- Moments one behind the other.
-use Rattle.std.proofs.Common.{◌≡◌, ℕ, zero, suc, ◌+◌, ◌-◌, ◌<◌, ◌≤◌, Bool, true, false, cond, leb, List, [], ◌∷◌, ◌++◌, map, length, drop, replicate, Some, None, Ok, Err, Option, Result, sym, refl, ap, ◌∙◌, subst, append_assoc, append-nil, arith, length-append}
+use Rattle.std.proofs.Common.{◌≡◌, ℕ, zero, suc, ◌+◌, ◌-◌, ◌<◌, ◌≤◌, Bool, true, false, cond, leb, List, [], ◌∷◌, ◌++◌, map, length, drop, replicate, None, Ok, Err, Option, Result, sym, refl, ap, ◌∙◌, subst, append_assoc, append-nil, arith, length-append}
 use Rattle.std.specs.List.{AllByRecursion}
 use Rattle.std.proofs.ByRecursion.{All-append}
 use Rattle.vocabulary.specs.Levels.{level_number, levels, mode_number, modes}
@@ -17,7 +17,7 @@ use Rattle.wire.specs.Packets.{Content}
 use Rattle.steps.specs.Rows.{is_failure}
 use Rattle.steps.specs.Setups.{Setup, number_at}
 use Rattle.steps.specs.Settling.{Settled, ended, settle}
-use Rattle.steps.specs.Calls.{Call, connect, message, lost, status, announce, train_data, tick, run, power_off, Step, connected, heard_from, lost_plainly, lost_finally, status_set, announcement_set, train_data_set, tick_passed, settled, powered_off, refused, first_of, is_unknown, connect_checks, lost_checks, message_checks, message_steps, announced_by, is_national, status_steps, steps_of}
+use Rattle.steps.specs.Calls.{Call, connect, message, lost, status, announce, train_data, tick, run, power_off, Step, connected, heard_from, lost_plainly, lost_finally, announcement_set, train_data_set, tick_passed, settled, powered_off, refused, first_of, is_unknown, connect_checks, lost_checks, message_checks, message_steps, announced_by, is_national, status_steps, steps_of}
 use Rattle.steps.specs.Moments.{Moment, acted, surroundings_by, ends_settling, moment_of, moments_of}
 use Rattle.steps.specs.Exchanges.{plus_counts, counts_in, added_in, rows_behind}
 use Rattle.steps.specs.declared.counts.Counts.{Counts}
@@ -30,7 +30,7 @@ use Rattle.laws.specs.Lawful.{Alone, total, Counted, holds_failure, is_power_off
 use Rattle.laws.proofs.Lists.{Timely, open_append, along_append, timely_append, total_same, total_plus, total_none}
 use Rattle.laws.proofs.Rows.{bit, opens, Sound}
 use Rattle.laws.proofs.Whys.{Why}
-use Rattle.laws.proofs.Places.{Distinct, not_false}
+use Rattle.laws.proofs.Places.{Distinct}
 use Rattle.laws.proofs.Settles.{by_cond, puts_append, settle_places}
 use Rattle.laws.proofs.Puts.{sent_from, SentAll, sent_append, sentall_append}
 use Rattle.laws.proofs.Moments.{Valid, Good}
@@ -204,9 +204,6 @@ err_ok f x e = grind arith
 
 same_ok : {X : Type 0} (x y : X) → ◌≡◌ {A = Result X Fault} (Ok x) (Ok y) → x ≡ y
 same_ok x y e = grind arith
-
-unless_same : (f : Option Fault) (k ws : List Step) → unless f (Ok k) ≡ Ok ws → k ≡ ws
-unless_same v0 k ws e = grind arith
 
 known : (a : Agreed) (n : ℕ) (why : Refusal) (checks : List (Bool × Refusal)) (k ws : List Step) → unless (first_of ((is_unknown a n, why) ∷ checks)) (Ok k) ≡ Ok ws → (among n a.numbers ≡ true) × (k ≡ ws)
 known a n why checks k ws e = grind arith

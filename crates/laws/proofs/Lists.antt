@@ -1,12 +1,10 @@
 -- Open orders along events, and sums.
-use Rattle.std.proofs.Common.{◌≡◌, ℕ, zero, suc, ◌+◌, ◌<◌, ◌≤◌, Bool, true, false, cond, eqb, ◌↔◌, List, [], ◌∷◌, ◌++◌, length, get_or, Some, None, sum_by, Option, refl, ap, arith}
+use Rattle.std.proofs.Common.{◌≡◌, ℕ, zero, suc, ◌+◌, ◌<◌, ◌≤◌, true, cond, eqb, ◌↔◌, List, [], ◌∷◌, ◌++◌, length, get_or, sum_by, Option, refl, ap, arith}
 use lib.Dec.{eqb-zero-suc, eqb-suc-zero, eqb-suc-suc}
 use Rattle.std.proofs.lemmas.List.Sums.{sum_by-cons}
-use Rattle.vocabulary.specs.declared.cause.Cause.{Cause}
 use Rattle.vocabulary.specs.declared.order.Order.{Order}
-use Rattle.steps.specs.Rows.{is_conditional}
-use Rattle.laws.specs.Events.{Event, Happening, took, took_failure, reported, asked, noticed, greeted, parted, ticked, off, elsewhere}
-use Rattle.laws.specs.OpenOrders.{Open, is_answer, after, unless_failed, next, open_from, is_open, is_failed, taken, answered, followed, failed, voided, along, is_tick}
+use Rattle.laws.specs.Events.{Event}
+use Rattle.laws.specs.OpenOrders.{Open, next, open_from, is_open, taken, answered, followed, failed, voided, along, is_tick}
 use Rattle.laws.specs.Lawful.{ForTime, Due, total}
 
 -- events one behind the other
@@ -35,15 +33,6 @@ timely_at lim s [] fs e a = a.0
 timely_at lim s (x ∷ es) fs e a = timely_at lim (next s x) es fs e a.1
 
 -- each order taken is closed once, or still open
-by_fails : (f : Option Cause) (w : Happening) (s : Option Open) (a b c d : ℕ) → a + is_open s ≡ (b + c + d) + is_open (after w s) →
-    a + is_open s ≡ (((b + c) + is_failed f (after w s)) + d) + is_open (unless_failed f (after w s))
-by_fails v0 w s a b c d e = grind arith
-
-at_report : (b : Bool) (w : Open) → 1 ≡ cond b 1 0 + is_open (cond b None (Some w))
-at_report v0 w = grind arith
-
-at_notice : (b : Bool) (w v : Open) → 1 ≡ is_open (cond b (Some v) (Some w))
-at_notice v0 w v = grind arith
 
 one : (s : Option Open) (e : Event) → taken s e + is_open s ≡ (((answered s e + followed s e) + failed s e) + voided s e) + is_open (next s e)
 one s e = grind arith

@@ -1,5 +1,5 @@
 -- One smallest step: every row and the events of its unit.
-use Rattle.std.proofs.Common.{◌≡◌, ℕ, ◌+◌, ◌<◌, ◌≤◌, Bool, true, false, cond, ◌||◌, eqb, List, [], ◌∷◌, length, get_or, set, Some, None, sum_by, count_by, Option, sym, refl, ap, ◌∙◌, subst, arith}
+use Rattle.std.proofs.Common.{◌≡◌, ℕ, ◌+◌, ◌<◌, ◌≤◌, Bool, true, false, cond, ◌||◌, eqb, List, [], ◌∷◌, length, get_or, set, Some, None, sum_by, Option, sym, refl, ap, ◌∙◌, subst, arith}
 use Rattle.std.specs.List.{AllByRecursion}
 use Rattle.std.proofs.lemmas.List.{get_or-set_same, get_or-set_other, length-set, length-map, length-replicate, get_or-replicate, get_or-map}
 use Rattle.vocabulary.specs.Rules.{among}
@@ -11,8 +11,7 @@ use Rattle.vocabulary.specs.declared.state.State.{State}
 use Rattle.vocabulary.specs.declared.state.State.TheVariants.{HotStandby, DataAvailable}
 use Rattle.vocabulary.specs.declared.versions.Versions.{Versions}
 use Rattle.book.specs.declared.view.View.{View}
-use Rattle.wire.specs.Packets.{Content, version, status, request, order, report, notice, other}
-use Rattle.steps.specs.Rows.{fresh_row, is_failure, same_state, at_state, some_at, open_count, with_link}
+use Rattle.steps.specs.Rows.{fresh_row, is_failure, same_state, some_at, open_count, with_link}
 use Rattle.steps.specs.Failing.{lost_by}
 use Rattle.steps.specs.Packets.{heard, answered_in, lost_in}
 use Rattle.steps.specs.Ticks.{lost_by_tick}
@@ -22,7 +21,7 @@ use Rattle.steps.specs.Views.{view_of}
 use Rattle.steps.specs.Puts.{Put, took_all, takes_all, follows_all}
 use Rattle.steps.specs.Settling.{Settled, ended, settle}
 use Rattle.steps.specs.Calls.{Step, connected, heard_from, lost_plainly, lost_finally, status_set, announcement_set, train_data_set, tick_passed, settled, powered_off}
-use Rattle.steps.specs.Moments.{dropped, is_changed, marked, acted, surroundings_by, acted_answered, acted_failed, acted_voided, ends_settling, settled_by, moment_of, Moment}
+use Rattle.steps.specs.Moments.{dropped, is_changed, marked, acted, surroundings_by, acted_answered, acted_failed, acted_voided, ends_settling, settled_by, moment_of}
 use Rattle.steps.specs.Moments as steps
 use Rattle.steps.specs.declared.row.Row.{Row}
 use Rattle.steps.specs.declared.surroundings.Surroundings.{Surroundings}
@@ -252,20 +251,8 @@ follows_total [] rs e = refl
 follows_total (p ∷ ps) [] e = let z : ◌≡◌ {A = ℕ} 0 1 = omega arith in omega arith
 follows_total (p ∷ ps) (r ∷ rs) e = omega (arith, follows_total ps rs (omega arith))
 
-said_order : (b : Bool) (p : Content) → is_failure_order (cond b (said_by p) elsewhere) ≡ 0
-said_order v0 p = grind arith
-
-parted_order : (b : Bool) → is_failure_order (cond b parted elsewhere) ≡ 0
-parted_order v0 = grind arith
-
 no_order : (x : ℕ) (w : Step) → is_failure_order (happening x w) ≡ 0
 no_order x v1 = grind arith
-
-said_off : (b : Bool) (p : Content) → is_off (cond b (said_by p) elsewhere) ≡ false
-said_off v0 p = grind arith
-
-parted_off : (b : Bool) → is_off (cond b parted elsewhere) ≡ false
-parted_off v0 = grind arith
 
 off_step : (x : ℕ) (w : Step) → is_power_off w ≡ false → is_off (happening x w) ≡ false
 off_step x v1 e = grind arith
@@ -277,8 +264,6 @@ pub record Good (c : Setup) : Type 0 where
   pub hs : (v : View) → c.answers v ≡ Some ToHotStandby → v.other_at_hs ≡ false
 
 -- counting is summing
-count_here : (t : State) (rows : List Row) → count_by (at_state t) rows ≡ sum_by (here t) rows
-count_here t rows = grind arith
 
 module _ (c : Setup) (good : Good c) (dist : Distinct c.settings.numbers) (w : Step) (s : Surroundings) (rows : List Row) (free : ℕ) (fit : length rows ≡ length c.settings.numbers) (v : Valid c.settings.numbers w) (sound : (i : ℕ) → i < length rows → Sound c.limits (row_at i rows)) where
   pub puts_of : Puts c.settings (surroundings_by w s) 0 (acted c s w rows) (settled_by c s w rows free)

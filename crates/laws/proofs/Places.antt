@@ -1,6 +1,5 @@
 -- Units, by their numbers and by their places.
 use Rattle.std.proofs.Common.{◌≡◌, ℕ, zero, suc, ◌+◌, ◌<◌, Bool, true, false, cond, not, ◌&&◌, ◌||◌, eqb, List, [], ◌∷◌, ◌++◌, length, get_or, Some, None, sym, refl, ap, ◌∙◌, arith}
-use Rattle.std.proofs.lemmas.Bool.Decides.{nat_tests}
 use Rattle.vocabulary.specs.Rules.{in_range, among, fits_behind, wrong_from, wrong_number}
 use Rattle.steps.specs.Setups.{place_in}
 
@@ -31,9 +30,6 @@ and_r v0 y e = grind arith
 
 pub not_true : (x : Bool) → not x ≡ true → x ≡ false
 not_true v0 e = grind arith
-
-pub not_false : (x : Bool) → not x ≡ false → x ≡ true
-not_false v0 e = grind arith
 
 among_push : (x n : ℕ) (e : List ℕ) → among x (e ++ n ∷ []) ≡ false → (among x e ≡ false) × (eqb x n ≡ false)
 among_push x n [] h = (refl, or_l (eqb x n) false h)

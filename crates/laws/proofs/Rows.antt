@@ -1,22 +1,20 @@
 -- One row and the events of its unit, step by step.
 use Rattle.std.proofs.Common.{◌≡◌, ℕ, ◌+◌, ◌<◌, ◌≤◌, Bool, true, false, cond, ◌&&◌, ◌||◌, eqb, ◌↔◌, Some, None, Option, sym, refl, ap, ◌∙◌, subst, arith}
-use Rattle.std.proofs.lemmas.Bool.Decides.{nat_tests}
 use Rattle.vocabulary.specs.Causes.{cause_number}
-use Rattle.vocabulary.specs.States.{state_number, target_of}
+use Rattle.vocabulary.specs.States.{state_number}
 use Rattle.vocabulary.specs.declared.cause.Cause.{Cause}
 use Rattle.vocabulary.specs.declared.cause.Cause.TheVariants as cause
 use Rattle.vocabulary.specs.declared.link.Link.{Link}
 use Rattle.vocabulary.specs.declared.link.Link.TheVariants as link
 use Rattle.vocabulary.specs.declared.order.Order.{Order}
-use Rattle.vocabulary.specs.declared.order.Order.TheVariants.{ToConfiguration, ToDataEntry, ToColdStandby, ToColdStandbyConditionally, ToHotStandby, ToDataAvailable}
 use Rattle.vocabulary.specs.declared.state.State.{State}
 use Rattle.vocabulary.specs.declared.state.State.TheVariants as state
 use Rattle.vocabulary.specs.declared.versions.Versions.{Versions}
 use Rattle.wire.specs.Packets.{Content, version, status, request, order, report, notice, other}
-use Rattle.steps.specs.Rows.{fresh_row, same_state, is_failure, is_checked, is_conditional, order_in, open_count, aims_at, at_state, with_link, with_open, with_due}
-use Rattle.steps.specs.Failing.{is_ordered, down, failed_by, lost_by}
+use Rattle.steps.specs.Rows.{fresh_row, same_state, is_failure, order_in, open_count, aims_at, at_state, with_link, with_open, with_due}
+use Rattle.steps.specs.Failing.{failed_by, lost_by}
 use Rattle.steps.specs.Reports.{sort_report, target_or, moved_to, report_by, answered_by, lost_by_report}
-use Rattle.steps.specs.Requests.{allowed, may_ask, sort_request, request_by, lost_by_request}
+use Rattle.steps.specs.Requests.{may_ask, sort_request, request_by, lost_by_request}
 use Rattle.steps.specs.Packets.{is_spoken, heard, answered_in, lost_in}
 use Rattle.steps.specs.Packets as packets
 use Rattle.steps.specs.Ticks.{time_cause, is_late, older, ticked_with, lost_by_tick_with, lost_by_tick}
@@ -25,7 +23,7 @@ use Rattle.steps.specs.Moments as moments
 use Rattle.steps.specs.declared.row.OpenOrder.{OpenOrder}
 use Rattle.steps.specs.declared.row.Row.{Row}
 use Rattle.laws.specs.Events.{Happening, reported, asked, noticed, greeted, parted, ticked, off, elsewhere, said_by, fell}
-use Rattle.laws.specs.OpenOrders.{Open, after, unless_failed, is_open, is_tick, answers_it, is_taken, is_answered, is_followed, is_voided, is_failed}
+use Rattle.laws.specs.OpenOrders.{Open, after, unless_failed, is_tick, answers_it, is_taken, is_answered, is_followed, is_voided, is_failed}
 use Rattle.laws.specs.Lawful.{ForTime, Due, is_off}
 
 abbrev pub bit : Bool → ℕ
@@ -80,15 +78,6 @@ pub record Quiet (w : Happening) (s : Option Open) : Type 0 where
 pub quiet_elsewhere : (s : Option Open) → Quiet elsewhere s
 quiet_elsewhere s = grind arith
 
-quiet_asked : (q : ℕ) (s : Option Open) → Quiet (asked q) s
-quiet_asked q s = grind arith
-
-quiet_greeted : (m : ℕ) (s : Option Open) → Quiet (greeted m) s
-quiet_greeted m s = grind arith
-
-quiet_parted : (s : Option Open) → Quiet parted s
-quiet_parted s = grind arith
-
 -- no failure
 pub fell_same : (r : Row) → fell r r ≡ None
 fell_same r = grind arith
@@ -99,17 +88,8 @@ fell_up r t e = grind arith
 pub fell_kept : (r t : Row) → is_failure t.held ≡ is_failure r.held → fell r t ≡ None
 fell_kept r t e = grind arith
 
-pub fell_down : (r t : Row) (c : Cause) → is_failure r.held ≡ false → is_failure t.held ≡ true → t.cause ≡ Some c → fell r t ≡ Some c
-fell_down r t c nf tf e = grind arith
-
 no_time : (lim : Order → ℕ) (w : Happening) (s : Option Open) → is_tick w ≡ false → ForTime None ↔ ((is_tick w ≡ true) × Due lim s)
 no_time lim w s e = grind arith
-
-no_time_but : (lim : Order → ℕ) (w : Happening) (s : Option Open) (c : Cause) → is_tick w ≡ false → (3 ≤ cause_number c → cause_number c ≤ 6 → ⊥) → ForTime (Some c) ↔ ((is_tick w ≡ true) × Due lim s)
-no_time_but lim w s c e bad = grind arith
-
-opens_count : (g : Option OpenOrder) → is_open (opens g) ≡ open_count g
-opens_count v0 = grind arith
 
 -- a row that does not fail and keeps its open order
 pub kept_up : (lim : Order → ℕ) (r t : Row) (w : Happening) → Sound lim r → is_failure t.held ≡ is_failure r.held → t.open ≡ r.open → bit t.failure_due ≤ bit r.failure_due →
@@ -123,41 +103,22 @@ kept_same lim r w so q = grind arith
 pub kept_elsewhere : (lim : Order → ℕ) (r : Row) → Sound lim r → Kept lim r r elsewhere (fell r r) 0 0 0
 kept_elsewhere lim r so = grind arith
 
-top_down : (s : State) (r : Row) (c : Cause) → Top s → bit (at_state s (down c r)) ≤ bit (at_state s r)
-top_down s r c h = grind arith
-
 -- a row fails
-kept_down : (lim : Order → ℕ) (r : Row) (w : Happening) (c : Cause) → is_failure r.held ≡ false → is_off w ≡ false → is_open (after w (opens r.open)) ≡ open_count r.open →
-    ForTime (Some c) ↔ ((is_tick w ≡ true) × Due lim (opens r.open)) →
-    0 ≡ is_answered (opens r.open) w → 0 ≡ is_voided (opens r.open) w → 0 ≡ is_followed (opens r.open) w → 0 ≡ is_taken w →
-    Kept lim r (failed_by c r) w (fell r (failed_by c r)) 0 (lost_by r) 0
-kept_down lim r w c nf nof op ti a v fo tk = grind arith
 
 kept_down_quiet : (lim : Order → ℕ) (r : Row) (w : Happening) (c : Cause) → is_failure r.held ≡ false → Quiet w (opens r.open) → (3 ≤ cause_number c → cause_number c ≤ 6 → ⊥) →
     Kept lim r (failed_by c r) w (fell r (failed_by c r)) 0 (lost_by r) 0
 kept_down_quiet lim r w c nf q bad = grind arith
 
 -- REPORTS
-target_up : (o : Order) → is_failure (target_of o) ≡ false
-target_up v0 = grind arith
 
 pub target_or_up : (o : Option Order) (h : State) → is_failure h ≡ false → is_failure (target_or o h) ≡ false
 target_or_up v0 h e = grind arith
-
-same_number : (a b : ℕ) → eqb a b ≡ true → a ≡ b
-same_number a b e = grind arith
 
 aims_failure : (g : Option OpenOrder) (s : ℕ) → eqb s 8 ≡ true → aims_at (order_in g) s ≡ false
 aims_failure v0 s e = grind arith
 
 aims_target : (o : Option Order) (h t : State) (s : ℕ) → aims_at o s ≡ true → same_state (target_or o h) t ≡ aims_at o (state_number t)
 aims_target v0 h t s e = grind arith
-
-after_report : (g : Option OpenOrder) (s : ℕ) → aims_at (order_in g) s ≡ false → after (reported s) (opens g) ≡ opens g
-after_report v0 s e = grind arith
-
-no_answer : (g : Option OpenOrder) (s : ℕ) → aims_at (order_in g) s ≡ false → 0 ≡ answers_it s (opens g)
-no_answer v0 s e = grind arith
 
 quiet_report : (g : Option OpenOrder) (s : ℕ) → aims_at (order_in g) s ≡ false → Quiet (reported s) (opens g)
 quiet_report g s e = grind arith
@@ -218,24 +179,11 @@ kept_request : (lim : Order → ℕ) (r : Row) (q : ℕ) → Sound lim r → (b1
 kept_request lim r q so v4 b2 b3 e = grind arith
 
 -- NOTICES
-abbrev renewed : OpenOrder → OpenOrder
-renewed w = record { order = w.order; age = 0; noted = true }
-
-after_notice : (g : Option OpenOrder) → opens (packets.noticed g) ≡ after noticed (opens g)
-after_notice v0 = grind arith
-
-noticed_young : (lim : Order → ℕ) (g : Option OpenOrder) → Young lim g → Young lim (packets.noticed g)
-noticed_young lim v1 h = grind arith
-
-noticed_order : (g : Option OpenOrder) → order_in (packets.noticed g) ≡ order_in g
-noticed_order v0 = grind arith
 
 kept_notice : (lim : Order → ℕ) (r : Row) → Sound lim r → let t = with_open (packets.noticed r.open) r in Kept lim r t noticed (fell r t) 0 0 0
 kept_notice lim r so = grind arith
 
 -- TICKS
-pub by_time : (o : Order) (b : Bool) → ForTime (Some (time_cause o b))
-by_time v0 b = grind arith
 
 not_down : (lim : Order → ℕ) (r : Row) (w : OpenOrder) → Sound lim r → r.open ≡ Some w → (b : Bool) → is_failure r.held ≡ b → b ≡ false
 not_down lim r w so e v5 h = grind arith
@@ -269,13 +217,6 @@ kept_ticked lim r so = kept_tick lim r r.open so
 pub kept_relinked : (lim : Order → ℕ) (r : Row) (w : Happening) (l : Link) (v : Option ℕ) (s d : Bool) → Sound lim r → bit d ≤ bit r.failure_due → Quiet w (opens r.open) →
     let t = with_due v s d (with_link l r) in Kept lim r t w (fell r t) 0 0 0
 kept_relinked lim r w l v s d so few q = grind arith
-
-abbrev final : Option ℕ → Bool → Bool → Row → Row
-final v s d r = with_due v s d (with_link link.Final r)
-
-kept_final : (lim : Order → ℕ) (r : Row) (w : Happening) (v : Option ℕ) (s d : Bool) → Sound lim r → bit d ≤ bit r.failure_due → Quiet w (opens r.open) → (b : Bool) → is_failure r.held ≡ b →
-    let t = failed_by cause.FinalDisconnection (final v s d r) in Kept lim r t w (fell r t) 0 (lost_by r) 0
-kept_final lim r w v s d so few q v9 e = grind arith
 
 kept_greeted : (lim : Order → ℕ) (r : Row) (major : ℕ) → Sound lim r → (b : Bool) →
     let t = cond b (with_due (Some major) true r.failure_due (with_link link.Checked r)) (failed_by cause.FinalDisconnection (with_link link.Final r)) in Kept lim r t (greeted major) (fell r t) 0 (cond b 0 (lost_by r)) 0

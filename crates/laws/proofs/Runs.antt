@@ -1,6 +1,5 @@
 -- Whole histories.
-use Rattle.std.proofs.Common.{◌≡◌, ℕ, zero, suc, ◌+◌, ◌-◌, ◌<◌, ◌≤◌, Bool, true, false, List, [], ◌∷◌, ◌++◌, length, replicate, Some, None, Ok, Err, sum_by, Option, Result, sym, refl, ap, ◌∙◌, subst, append_assoc, append-nil, arith}
-use mathlib.Core.Path.{fun_ext}
+use Rattle.std.proofs.Common.{◌≡◌, ℕ, zero, suc, ◌+◌, ◌-◌, ◌<◌, ◌≤◌, Bool, true, List, [], ◌∷◌, ◌++◌, length, replicate, Some, None, Ok, Err, sum_by, Option, Result, sym, refl, ap, ◌∙◌, subst, append_assoc, append-nil, arith}
 use Rattle.std.specs.List.{AllByRecursion}
 use Rattle.std.proofs.ByRecursion.{All-append}
 use Rattle.std.proofs.lemmas.List.{length-replicate, get_or-replicate}
@@ -23,7 +22,7 @@ use Rattle.steps.specs.declared.row.OpenOrder.{OpenOrder}
 use Rattle.steps.specs.declared.row.Row.{Row}
 use Rattle.steps.specs.declared.surroundings.Surroundings.{Surroundings}
 use Rattle.laws.specs.Events.{Event, row_at, events, events_over, orders_put}
-use Rattle.laws.specs.OpenOrders.{Open, Waits, open_from, open_order, along, is_open}
+use Rattle.laws.specs.OpenOrders.{Open, Waits, open_order, along, is_open}
 use Rattle.laws.specs.OpenOrders as orders
 use Rattle.laws.specs.Lawful.{moments_in, rows_after, steps_in, Granted, Told, Alone, Due, total, sum_over, counts_of, Counted, holds_failure, Stays, Reasoned, ForUnit, EveryRunLawful}
 use Rattle.laws.proofs.Lists.{Timely, open_append, timely_append, timely_at, total_same, total_none, each_once}

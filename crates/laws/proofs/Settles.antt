@@ -1,6 +1,5 @@
 -- The settling, as the list of what each row put.
-use Rattle.std.proofs.Common.{◌≡◌, ℕ, zero, suc, ◌+◌, ◌-◌, ◌<◌, ◌≤◌, Bool, true, false, cond, eqb, ltb, List, [], ◌∷◌, ◌++◌, length, get_or, take, Some, None, Option, sym, refl, ap, ◌∙◌, append_assoc, append-nil, arith, length-append, length-take-le}
-use Rattle.std.proofs.lemmas.Bool.Decides.{nat_tests}
+use Rattle.std.proofs.Common.{◌≡◌, ℕ, zero, suc, ◌+◌, ◌-◌, ◌<◌, ◌≤◌, Bool, true, false, cond, eqb, ltb, List, [], ◌∷◌, ◌++◌, length, get_or, take, Option, sym, refl, ap, ◌∙◌, append_assoc, append-nil, arith, length-append, length-take-le}
 use Rattle.std.proofs.lemmas.List.{length_push}
 use Rattle.std.proofs.ByRecursion.{All-append}
 use Rattle.std.specs.List.{AllByRecursion}
@@ -8,10 +7,10 @@ use Rattle.vocabulary.specs.Rules.{among}
 use Rattle.vocabulary.specs.Settings.{Agreed}
 use Rattle.vocabulary.specs.declared.order.Order.{Order}
 use Rattle.wire.specs.Messages.{read_message}
-use Rattle.steps.specs.Rows.{fresh_row, is_failure, is_checked}
+use Rattle.steps.specs.Rows.{fresh_row, is_failure}
 use Rattle.steps.specs.Setups.{Setup, number_at}
 use Rattle.steps.specs.Views.{view_of}
-use Rattle.steps.specs.Puts.{Put, reply, status, failure, ordered, replies, orders, wanted, took_all, takes, takes_all, follows, follows_all, packet_of, frame_of, frames_of}
+use Rattle.steps.specs.Puts.{Put, reply, status, failure, ordered, wanted, took_all, takes, takes_all, follows_all, packet_of, frame_of, frames_of}
 use Rattle.steps.specs.Puts as puts
 use Rattle.steps.specs.Settling.{wanted_at, Settled, ended, settled_row, settle}
 use Rattle.steps.specs.declared.row.Row.{Row}

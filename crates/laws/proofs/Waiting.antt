@@ -1,10 +1,10 @@
 -- The open order that is counted along is the order that was taken and that nothing closed since.
-use Rattle.std.proofs.Common.{◌≡◌, ℕ, ◌+◌, Bool, true, false, cond, ◌||◌, ◌⊎◌, ◌↔◌, List, [], ◌∷◌, ◌++◌, is_some, Some, None, Option, sym, refl, ap, ◌∙◌, subst, inl, inr, arith}
+use Rattle.std.proofs.Common.{◌≡◌, ℕ, ◌+◌, Bool, true, false, cond, ◌||◌, ◌⊎◌, ◌↔◌, List, [], ◌∷◌, ◌++◌, Some, None, Option, sym, refl, ap, ◌∙◌, subst, inl, inr, arith}
 use Rattle.vocabulary.specs.declared.cause.Cause.{Cause}
 use Rattle.vocabulary.specs.declared.order.Order.{Order}
 use Rattle.steps.specs.Rows.{is_conditional}
 use Rattle.laws.specs.Events.{Event, Happening, just, took, took_failure, reported, asked, noticed, greeted, parted, ticked, off, elsewhere}
-use Rattle.laws.specs.OpenOrders.{Open, is_answer, after, unless_failed, next, open_from, open_order, closes, ends, NoneCloses, is_tick, is_notice, some_notice, since_notice, ticks_in, Waits}
+use Rattle.laws.specs.OpenOrders.{Open, is_answer, after, unless_failed, next, open_from, open_order, closes, NoneCloses, is_tick, is_notice, some_notice, since_notice, ticks_in, Waits}
 use Rattle.laws.proofs.Lists.{open_append}
 
 abbrev open' : Order → ℕ → Open
@@ -24,15 +24,6 @@ step elsewhere o k = k
 
 or_none : (b c : Bool) → (b || c) ≡ false → (b ≡ false) × (c ≡ false)
 or_none v0 c e = grind arith
-
-cond_split : (b : Bool) (o : Order) (k : ℕ) → cond b (Some (open' o 0)) (Some (open' o k)) ≡ Some (open' o (cond b 0 k))
-cond_split v0 o k = grind arith
-
-stepped : (o : Order) (k : ℕ) (w : Happening) → ends o w ≡ false → after w (Some (open' o k)) ≡ Some (open' o (step w o k))
-stepped o k v2 e = grind arith
-
-no_cause : (f : Option Cause) (s : Option Open) → is_some f ≡ false → unless_failed f s ≡ s
-no_cause v0 s e = grind arith
 
 one : (o : Order) (k : ℕ) (e : Event) → closes o e ≡ false → next (Some (open' o k)) e ≡ Some (open' o (step e.what o k))
 one o k e h = grind arith

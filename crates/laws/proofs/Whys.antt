@@ -1,17 +1,16 @@
 -- Why a row fails, step by step.
-use Rattle.std.proofs.Common.{◌≡◌, ℕ, ◌<◌, ◌≤◌, Bool, true, false, cond, ◌&&◌, ◌||◌, eqb, leb, ◌⊎◌, ◌↔◌, is_some, Some, None, Option, sym, refl, ap, ◌∙◌, subst, inl, inr, arith}
-use Rattle.std.proofs.lemmas.Bool.Decides.{nat_tests}
-use Rattle.vocabulary.specs.States.{state_number, target_of}
+use Rattle.std.proofs.Common.{◌≡◌, ℕ, Bool, true, false, cond, ◌&&◌, eqb, ◌↔◌, Some, None, Option, refl, ap, inl, inr, arith}
+use Rattle.vocabulary.specs.States.{state_number}
 use Rattle.vocabulary.specs.declared.cause.Cause.{Cause}
 use Rattle.vocabulary.specs.declared.cause.Cause.TheVariants as cause
 use Rattle.vocabulary.specs.declared.link.Link.TheVariants as link
 use Rattle.vocabulary.specs.declared.order.Order.{Order}
 use Rattle.vocabulary.specs.declared.state.State.{State}
-use Rattle.vocabulary.specs.declared.state.State.TheVariants.{NoPower, PowerOn, Configuration, DataEntry, ColdStandby, HotStandby, DataAvailable, Failure}
+use Rattle.vocabulary.specs.declared.state.State.TheVariants.{NoPower, PowerOn}
 use Rattle.vocabulary.specs.declared.versions.Versions.{Versions}
 use Rattle.wire.specs.Packets.{Content, version, status, request, order, report, notice, other}
 use Rattle.steps.specs.Rows.{fresh_row, is_failure, order_in, aims_at, with_link, with_open, with_due}
-use Rattle.steps.specs.Failing.{down, failed_by}
+use Rattle.steps.specs.Failing.{failed_by}
 use Rattle.steps.specs.Reports.{sort_report, target_or, moved_to, report_by}
 use Rattle.steps.specs.Requests.{allowed, may_ask, sort_request, request_by}
 use Rattle.steps.specs.Packets.{is_spoken, heard}
@@ -22,17 +21,14 @@ use Rattle.steps.specs.Moments as moments
 use Rattle.steps.specs.declared.row.OpenOrder.{OpenOrder}
 use Rattle.steps.specs.declared.row.Row.{Row}
 use Rattle.laws.specs.Events.{Happening, reported, asked, noticed, greeted, parted, ticked, off, elsewhere, said_by, fell}
-use Rattle.laws.specs.Reasons.{IsTarget, Uncalled, MayAsk, Foreign, Reason}
+use Rattle.laws.specs.Reasons.{IsTarget, Uncalled, MayAsk, Reason}
 use Rattle.laws.specs.Lawful.{ForTime}
-use Rattle.laws.proofs.Rows.{fell_same, fell_up, fell_kept, fell_down, target_or_up, by_time}
+use Rattle.laws.proofs.Rows.{fell_same, fell_up, fell_kept, target_or_up}
 use Rattle.laws.proofs.Places.{same_num, apart}
 
 -- of each cause that is not for time: the row fails by it exactly if it has not failed yet and there is the reason
 abbrev pub Why : Versions → Row → Row → Happening → Type 0
 Why v r t w = (c : Cause) → (ForTime (Some c) → ⊥) → (fell r t ≡ Some c) ↔ ((is_failure r.held ≡ false) × Reason v r w c)
-
-some_same : (c k : Cause) → Some k ≡ Some c → c ≡ k
-some_same c k e = grind arith
 
 -- no failure, and no reason
 why_none : (v : Versions) (r t : Row) (w : Happening) → fell r t ≡ None → ((c : Cause) → Reason v r w c → ⊥) → Why v r t w
@@ -112,14 +108,9 @@ module _ (v : Versions) (r : Row) (s : ℕ) where
       (only_wrong (apart s 8 e2))
 
 -- REQUESTS
-or_either : (q : ℕ) (a b : Bool) → eqb q 3 ≡ a → eqb q 4 ≡ b → (a || b) ≡ true → (q ≡ 3) ⊎ (q ≡ 4)
-or_either q v1 b x y e = grind arith
 
 may_is : (h : State) (q : ℕ) → may_ask h q ≡ true → MayAsk h q
 may_is v0 q e = grind arith
-
-is_may : (h : State) (q : ℕ) → MayAsk h q → may_ask h q ≡ true
-is_may h q v2 = grind arith
 
 is_may_not : (h : State) (q : ℕ) → may_ask h q ≡ false → MayAsk h q → ⊥
 is_may_not h q e m = grind arith
@@ -133,27 +124,6 @@ module _ (v : Versions) (r : Row) (q : ℕ) where
       why_by v r (failed_by cause.Request r) (asked q) cause.Request (fell_failed r r cause.Request e1 refl) e1 (refl, record { opened = is_aims (order_in r.open) q e2; allowed = is_may_not r.held q e3 }) (λ c h. h.0)
 
 -- GREETINGS
-le_of : (x y : ℕ) → leb x y ≡ true → x ≤ y
-le_of x y e = grind arith
-
-gt_of : (x y : ℕ) → leb x y ≡ false → y < x
-gt_of x y e = grind arith
-
-spoken_in : (l h m k : ℕ) (a b : Bool) → leb l m ≡ a → leb m h ≡ b → is_some (cond (a && b) (Some k) None) ≡ true → (l ≤ m) × (m ≤ h)
-spoken_in l h m k v4 v5 x y e = grind arith
-
-spoken_out : (l h m k : ℕ) (a b : Bool) → leb l m ≡ a → leb m h ≡ b → is_some (cond (a && b) (Some k) None) ≡ false → (m < l) ⊎ (h < m)
-spoken_out l h m k v4 v5 x y e = grind arith
-
-not_foreign : (v : Versions) (m : ℕ) → is_spoken v m ≡ true → Foreign v m → ⊥
-not_foreign v m e v3 = grind arith
-
-is_foreign : (v : Versions) (m : ℕ) → is_spoken v m ≡ false → Foreign v m
-is_foreign v m e = grind arith
-
-why_final : (v : Versions) (r u : Row) (w : Happening) (b : Bool) → is_failure r.held ≡ b → u.held ≡ r.held → Reason v r w cause.FinalDisconnection → ((c : Cause) → Reason v r w c → c ≡ cause.FinalDisconnection) →
-    Why v r (failed_by cause.FinalDisconnection u) w
-why_final v r u w v4 e k why only = grind arith
 
 why_greeted : (v : Versions) (r : Row) (m : ℕ) (b : Bool) → is_spoken v m ≡ b →
     Why v r (cond b (with_due (Some m) true r.failure_due (with_link link.Checked r)) (failed_by cause.FinalDisconnection (with_link link.Final r))) (greeted m)
@@ -177,8 +147,6 @@ why_heard v r notice = why_kept v r (with_open (packets.noticed r.open) r) notic
 why_heard v r (other bs) = why_kept v r r elsewhere refl (λ c h. h)
 
 -- TICKS: only for time
-why_late : (v : Versions) (r : Row) (k : Cause) → ForTime (Some k) → (b : Bool) → is_failure r.held ≡ b → Why v r (failed_by k r) ticked
-why_late v r k time v4 e = grind arith
 
 why_tick : (v : Versions) (lim : Order → ℕ) (r : Row) (w : OpenOrder) (b : Bool) → Why v r (cond b (failed_by (time_cause w.order w.noted) r) (with_open (Some (older w)) r)) ticked
 why_tick v lim r w v4 = grind arith
