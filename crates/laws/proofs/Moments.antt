@@ -30,7 +30,7 @@ use Rattle.laws.specs.OpenOrders.{Open, open_order, along}
 use Rattle.laws.specs.OpenOrders as orders
 use Rattle.laws.specs.Lawful.{Alone, total, Counted, holds_failure, is_power_off, is_off, is_failure_order, ForUnit}
 use Rattle.laws.proofs.Lists.{total_same, total_none, total_list, total_le, total_at}
-use Rattle.laws.proofs.Rows.{opens, Sound, Kept, Top, kept_elsewhere, kept_heard, kept_ticked, kept_parted, kept_relinked, kept_marked, kept_off, quiet_elsewhere}
+use Rattle.laws.proofs.Rows.{opens, Sound, Kept, Top, kept_elsewhere, kept_heard, kept_ticked, kept_parted, kept_relinked, kept_marked, kept_off}
 use Rattle.laws.proofs.Whys.{Why, why_kept, why_heard, why_parted, why_ticked, why_off}
 use Rattle.laws.proofs.Places.{Distinct, same_num, apart, placed, same_place}
 use Rattle.laws.proofs.Settles.{by_cond, events_of, Puts, nothing, settle_puts, settle_places, each_at, each_length, fit_at, read_at, put_each, for_units_lem, takes_each, follows_each}
@@ -157,13 +157,13 @@ module _ (c : Setup) (dist : Distinct c.settings.numbers) (s : Surroundings) (ro
       Kept c.limits (row_at i rows) (row_at i (acted c s w rows)) (happening (number_at c.settings i) w) (fell (row_at i rows) (row_at i (acted c s w rows))) (ans_at c w rows i) (lost_at c w rows i) (void_at w rows i)
   act_kept (connected n) i v h so =
       set_quiet c.limits rows (place_in ns n) i (with_link link.Open) (inside n v) (eqb (place_in ns n) i) refl so
-      (λ r z. kept_relinked c.limits r elsewhere link.Open r.reply r.status_due r.failure_due z (omega arith) (quiet_elsewhere (opens r.open)))
+      (λ r z. kept_relinked c.limits r link.Open r.reply r.status_due r.failure_due z (omega arith))
   act_kept (heard_from n p) i v h so =
       set_kept c.limits rows (place_in ns n) i (heard c.settings.versions p) (said_by p) (answered_in p) (lost_in c.settings.versions p) (inside n v) (eqb n (number_at c.settings i)) (by_place n i v h) so
       (λ r z. kept_heard c.limits c.settings.versions r p z)
   act_kept (lost_plainly n) i v h so =
       set_quiet c.limits rows (place_in ns n) i dropped (inside n v) (eqb (place_in ns n) i) refl so
-      (λ r z. kept_relinked c.limits r elsewhere link.Closed None false false z (omega arith) (quiet_elsewhere (opens r.open)))
+      (λ r z. kept_relinked c.limits r link.Closed None false false z (omega arith))
   act_kept (lost_finally n) i v h so =
       let r = row_at i rows in let t = row_at i (acted c s (lost_finally n) rows) in let b = eqb n (number_at c.settings i) in
       subst (λ k. Kept c.limits r t (cond b parted elsewhere) (fell r t) k (cond b (lost_by (row_of c.settings rows n)) 0) 0) (same_zero b)
