@@ -6,10 +6,9 @@ use Rattle.vocabulary.specs.Rules.{among}
 use Rattle.vocabulary.specs.States.{target_of}
 use Rattle.vocabulary.specs.declared.link.Link.TheVariants as link
 use Rattle.vocabulary.specs.declared.order.Order.{Order}
-use Rattle.vocabulary.specs.declared.order.Order.TheVariants.{ToConfiguration, ToDataEntry, ToColdStandby, ToColdStandbyConditionally, ToHotStandby, ToDataAvailable}
+use Rattle.vocabulary.specs.declared.order.Order.TheVariants.{ToHotStandby, ToDataAvailable}
 use Rattle.vocabulary.specs.declared.state.State.{State}
 use Rattle.vocabulary.specs.declared.state.State.TheVariants.{HotStandby, DataAvailable}
-use Rattle.vocabulary.specs.declared.versions.Versions.{Versions}
 use Rattle.book.specs.declared.view.View.{View}
 use Rattle.steps.specs.Rows.{fresh_row, is_failure, same_state, some_at, open_count, with_link}
 use Rattle.steps.specs.Failing.{lost_by}
@@ -25,7 +24,7 @@ use Rattle.steps.specs.Moments.{dropped, is_changed, marked, acted, surroundings
 use Rattle.steps.specs.Moments as steps
 use Rattle.steps.specs.declared.row.Row.{Row}
 use Rattle.steps.specs.declared.surroundings.Surroundings.{Surroundings}
-use Rattle.laws.specs.Events.{Event, Happening, parted, ticked, off, elsewhere, said_by, happening, fell, row_at, events_at, orders_in, orders_put}
+use Rattle.laws.specs.Events.{Event, Happening, parted, elsewhere, said_by, happening, fell, row_at, events_at, orders_in, orders_put}
 use Rattle.laws.specs.OpenOrders.{Open, open_order, along}
 use Rattle.laws.specs.OpenOrders as orders
 use Rattle.laws.specs.Lawful.{Alone, total, Counted, holds_failure, is_power_off, is_off, is_failure_order, ForUnit}
@@ -33,7 +32,7 @@ use Rattle.laws.proofs.Lists.{total_same, total_none, total_list, total_le, tota
 use Rattle.laws.proofs.Rows.{opens, Sound, Kept, Top, kept_elsewhere, kept_heard, kept_ticked, kept_parted, kept_relinked, kept_marked, kept_off}
 use Rattle.laws.proofs.Whys.{Why, why_kept, why_heard, why_parted, why_ticked, why_off}
 use Rattle.laws.proofs.Places.{Distinct, same_num, apart, placed, same_place}
-use Rattle.laws.proofs.Settles.{by_cond, events_of, Puts, nothing, settle_puts, settle_places, each_at, each_length, fit_at, read_at, put_each, for_units_lem, takes_each, follows_each}
+use Rattle.laws.proofs.Settles.{by_cond, events_of, Puts, nothing, settle_puts, each_at, each_length, fit_at, read_at, put_each, for_units_lem, takes_each, follows_each}
 use Rattle.laws.proofs.Puts.{Both, both, ev, took_held, fell_took, here, settle_few}
 
 -- a step of a unit of the settings
@@ -101,47 +100,15 @@ acted_length c s tick_passed rows = length-map rows (ticks.ticked c.limits)
 acted_length c s settled rows = refl
 acted_length c s powered_off rows = length-replicate (length rows) fresh_row
 
--- one row is set
-set_same : (rows : List Row) (x i : ℕ) (f : Row → Row) → x < length rows → eqb x i ≡ true → get_or (set rows x (f (get_or rows x fresh_row))) i fresh_row ≡ f (get_or rows i fresh_row)
-set_same rows x i f hx e =
+-- one row is set: the row at its place is changed, and every other is as it was
+at_set : (P : Bool → Row → Row → Type 0) (rows : List Row) (x i : ℕ) (f : Row → Row) → x < length rows → (b : Bool) → eqb x i ≡ b →
+    P true (get_or rows i fresh_row) (f (get_or rows i fresh_row)) → P false (get_or rows x fresh_row) (get_or rows i fresh_row) →
+    P b (get_or rows x fresh_row) (get_or (set rows x (f (get_or rows x fresh_row))) i fresh_row)
+at_set P rows x i f hx true e moved left =
     let q = same_num x i e in
-    ap (λ j. get_or (set rows x (f (get_or rows x fresh_row))) j fresh_row) (sym q) ∙ get_or-set_same rows x (f (get_or rows x fresh_row)) fresh_row hx ∙ ap (λ j. f (get_or rows j fresh_row)) q
-
-set_other : (rows : List Row) (x i : ℕ) (t : Row) → eqb x i ≡ false → get_or (set rows x t) i fresh_row ≡ get_or rows i fresh_row
-set_other rows x i t e = get_or-set_other rows x i t fresh_row (λ q. apart x i e (sym q))
-
-set_kept : (lim : Order → ℕ) (rows : List Row) (x i : ℕ) (f : Row → Row) (h : Happening) (a l : Row → ℕ) → x < length rows → (b : Bool) → eqb x i ≡ b →
-    Sound lim (get_or rows i fresh_row) → ((r : Row) → Sound lim r → Kept lim r (f r) h (fell r (f r)) (a r) (l r) 0) →
-    let r = get_or rows i fresh_row in let t = get_or (set rows x (f (get_or rows x fresh_row))) i fresh_row in
-    Kept lim r t (cond b h elsewhere) (fell r t) (cond b (a (get_or rows x fresh_row)) 0) (cond b (l (get_or rows x fresh_row)) 0) 0
-set_kept lim rows x i f h a l hx true e so k =
-    let r = get_or rows i fresh_row in
-    let ex : get_or rows x fresh_row ≡ r = ap (λ j. get_or rows j fresh_row) (same_num x i e) in
-    subst (λ (t : Row). Kept lim r t h (fell r t) (a (get_or rows x fresh_row)) (l (get_or rows x fresh_row)) 0) (sym (set_same rows x i f hx e))
-    (subst (λ (u : Row). Kept lim r (f r) h (fell r (f r)) (a u) (l u) 0) (sym ex) (k r so))
-set_kept lim rows x i f h a l hx false e so k =
-    let r = get_or rows i fresh_row in
-    subst (λ (t : Row). Kept lim r t elsewhere (fell r t) 0 0 0) (sym (set_other rows x i (f (get_or rows x fresh_row)) e)) (kept_elsewhere lim r so)
-
--- the same where nothing that counts happens
-set_quiet : (lim : Order → ℕ) (rows : List Row) (x i : ℕ) (f : Row → Row) → x < length rows → (b : Bool) → eqb x i ≡ b → Sound lim (get_or rows i fresh_row) →
-    ((r : Row) → Sound lim r → Kept lim r (f r) elsewhere (fell r (f r)) 0 0 0) →
-    let r = get_or rows i fresh_row in let t = get_or (set rows x (f (get_or rows x fresh_row))) i fresh_row in Kept lim r t elsewhere (fell r t) 0 0 0
-set_quiet lim rows x i f hx true e so k = let r = get_or rows i fresh_row in subst (λ (t : Row). Kept lim r t elsewhere (fell r t) 0 0 0) (sym (set_same rows x i f hx e)) (k r so)
-set_quiet lim rows x i f hx false e so k = let r = get_or rows i fresh_row in subst (λ (t : Row). Kept lim r t elsewhere (fell r t) 0 0 0) (sym (set_other rows x i (f (get_or rows x fresh_row)) e)) (kept_elsewhere lim r so)
-
-same_zero : (b : Bool) → ◌≡◌ {A = ℕ} (cond b 0 0) 0
-same_zero v0 = grind arith
-
-set_why : (v : Versions) (rows : List Row) (x i : ℕ) (f : Row → Row) (h : Happening) → x < length rows → (b : Bool) → eqb x i ≡ b → ((r : Row) → Why v r (f r) h) →
-    Why v (get_or rows i fresh_row) (get_or (set rows x (f (get_or rows x fresh_row))) i fresh_row) (cond b h elsewhere)
-set_why v rows x i f h hx true e k = let r = get_or rows i fresh_row in subst (λ (t : Row). Why v r t h) (sym (set_same rows x i f hx e)) (k r)
-set_why v rows x i f h hx false e k = let r = get_or rows i fresh_row in subst (λ (t : Row). Why v r t elsewhere) (sym (set_other rows x i (f (get_or rows x fresh_row)) e)) (why_kept v r r elsewhere refl (λ c y. y))
-
-set_why_quiet : (v : Versions) (rows : List Row) (x i : ℕ) (f : Row → Row) → x < length rows → (b : Bool) → eqb x i ≡ b → ((r : Row) → Why v r (f r) elsewhere) →
-    Why v (get_or rows i fresh_row) (get_or (set rows x (f (get_or rows x fresh_row))) i fresh_row) elsewhere
-set_why_quiet v rows x i f hx true e k = let r = get_or rows i fresh_row in subst (λ (t : Row). Why v r t elsewhere) (sym (set_same rows x i f hx e)) (k r)
-set_why_quiet v rows x i f hx false e k = let r = get_or rows i fresh_row in subst (λ (t : Row). Why v r t elsewhere) (sym (set_other rows x i (f (get_or rows x fresh_row)) e)) (why_kept v r r elsewhere refl (λ c y. y))
+    subst (λ j. P true (get_or rows x fresh_row) (get_or (set rows x (f (get_or rows x fresh_row))) j fresh_row)) q
+    (rw (get_or-set_same rows x (f (get_or rows x fresh_row)) fresh_row hx) (subst (λ j. P true (get_or rows j fresh_row) (f (get_or rows j fresh_row))) (sym q) moved))
+at_set P rows x i f hx false e moved left = rw (get_or-set_other rows x i (f (get_or rows x fresh_row)) fresh_row (λ q. apart x i e (sym q))) left
 
 module _ (c : Setup) (dist : Distinct c.settings.numbers) (s : Surroundings) (rows : List Row) (fit : length rows ≡ length c.settings.numbers) where
   abbrev ns : List ℕ
@@ -153,51 +120,43 @@ module _ (c : Setup) (dist : Distinct c.settings.numbers) (s : Surroundings) (ro
   by_place : (n i : ℕ) → among n ns ≡ true → i < length rows → eqb (place_in ns n) i ≡ eqb n (number_at c.settings i)
   by_place n i v h = sym (same_place ns dist n i v (omega arith))
 
-  act_kept : (w : Step) (i : ℕ) → Valid ns w → i < length rows → Sound c.limits (row_at i rows) →
-      Kept c.limits (row_at i rows) (row_at i (acted c s w rows)) (happening (number_at c.settings i) w) (fell (row_at i rows) (row_at i (acted c s w rows))) (ans_at c w rows i) (lost_at c w rows i) (void_at w rows i)
-  act_kept (connected n) i v h so =
-      set_quiet c.limits rows (place_in ns n) i (with_link link.Open) (inside n v) (eqb (place_in ns n) i) refl so
-      (λ r z. kept_relinked c.limits r link.Open r.reply r.status_due r.failure_due z (omega arith))
-  act_kept (heard_from n p) i v h so =
-      set_kept c.limits rows (place_in ns n) i (heard c.settings.versions p) (said_by p) (answered_in p) (lost_in c.settings.versions p) (inside n v) (eqb n (number_at c.settings i)) (by_place n i v h) so
-      (λ r z. kept_heard c.limits c.settings.versions r p z)
-  act_kept (lost_plainly n) i v h so =
-      set_quiet c.limits rows (place_in ns n) i dropped (inside n v) (eqb (place_in ns n) i) refl so
-      (λ r z. kept_relinked c.limits r link.Closed None false false z (omega arith))
-  act_kept (lost_finally n) i v h so =
-      let r = row_at i rows in let t = row_at i (acted c s (lost_finally n) rows) in let b = eqb n (number_at c.settings i) in
-      subst (λ k. Kept c.limits r t (cond b parted elsewhere) (fell r t) k (cond b (lost_by (row_of c.settings rows n)) 0) 0) (same_zero b)
-      (set_kept c.limits rows (place_in ns n) i steps.parted parted (λ _. 0) lost_by (inside n v) b (by_place n i v h) so (λ r z. kept_parted c.limits r z))
-  act_kept (status_set l n m) i v h so =
-      let r = row_at i rows in let b = is_changed s l m in
-      subst (λ (t : Row). Kept c.limits r t elsewhere (fell r t) 0 0 0) (sym (get_or-map (marked b) rows i fresh_row fresh_row h)) (kept_marked c.limits r b so)
-  act_kept (announcement_set n) i v h so = kept_elsewhere c.limits (row_at i rows) so
-  act_kept (train_data_set b) i v h so = kept_elsewhere c.limits (row_at i rows) so
-  act_kept tick_passed i v h so =
-      let r = row_at i rows in
-      subst (λ (t : Row). Kept c.limits r t ticked (fell r t) 0 (lost_by_tick c.limits r) 0) (sym (get_or-map (ticks.ticked c.limits) rows i fresh_row fresh_row h)) (kept_ticked c.limits r so)
-  act_kept settled i v h so = kept_elsewhere c.limits (row_at i rows) so
-  act_kept powered_off i v h so =
-      let r = row_at i rows in
-      subst (λ (t : Row). Kept c.limits r t off (fell r t) 0 0 (opened r)) (sym (get_or-replicate (length rows) i fresh_row fresh_row h)) (kept_off c.limits r so)
+  -- all that is asked of a row's step, with its reasons
+  abbrev Goes : Row → Row → Happening → ℕ → ℕ → ℕ → Type 0
+  Goes r t w ans lst vd = Kept c.limits r t w (fell r t) ans lst vd × Why c.settings.versions r t w
 
-  act_why : (w : Step) (i : ℕ) → Valid ns w → i < length rows → Why c.settings.versions (row_at i rows) (row_at i (acted c s w rows)) (happening (number_at c.settings i) w)
-  act_why (connected n) i v h = set_why_quiet c.settings.versions rows (place_in ns n) i (with_link link.Open) (inside n v) (eqb (place_in ns n) i) refl (λ r. why_kept c.settings.versions r (with_link link.Open r) elsewhere refl (λ k y. y))
-  act_why (heard_from n p) i v h = set_why c.settings.versions rows (place_in ns n) i (heard c.settings.versions p) (said_by p) (inside n v) (eqb n (number_at c.settings i)) (by_place n i v h) (λ r. why_heard c.settings.versions r p)
-  act_why (lost_plainly n) i v h = set_why_quiet c.settings.versions rows (place_in ns n) i dropped (inside n v) (eqb (place_in ns n) i) refl (λ r. why_kept c.settings.versions r (dropped r) elsewhere refl (λ k y. y))
-  act_why (lost_finally n) i v h = set_why c.settings.versions rows (place_in ns n) i steps.parted parted (inside n v) (eqb n (number_at c.settings i)) (by_place n i v h) (λ r. why_parted c.settings.versions r)
-  act_why (status_set l n m) i v h =
+  unmoved : (r t : Row) → Kept c.limits r t elsewhere (fell r t) 0 0 0 → is_failure t.held ≡ is_failure r.held → Goes r t elsewhere 0 0 0
+  unmoved r t k e = (k, why_kept c.settings.versions r t elsewhere e (λ x y. y))
+
+  act : (w : Step) (i : ℕ) → Valid ns w → i < length rows → Sound c.limits (row_at i rows) →
+      Goes (row_at i rows) (row_at i (acted c s w rows)) (happening (number_at c.settings i) w) (ans_at c w rows i) (lost_at c w rows i) (void_at w rows i)
+  act (connected n) i v h so =
+      let r = row_at i rows in
+      at_set (λ b u t. Goes r t elsewhere 0 0 0) rows (place_in ns n) i (with_link link.Open) (inside n v) (eqb (place_in ns n) i) refl
+      (unmoved r (with_link link.Open r) (kept_relinked c.limits r link.Open r.reply r.status_due r.failure_due so (omega arith)) refl) (unmoved r r (kept_elsewhere c.limits r so) refl)
+  act (heard_from n p) i v h so =
+      let r = row_at i rows in
+      at_set (λ b u t. Goes r t (cond b (said_by p) elsewhere) (cond b (answered_in p u) 0) (cond b (lost_in c.settings.versions p u) 0) 0) rows (place_in ns n) i (heard c.settings.versions p) (inside n v) (eqb n (number_at c.settings i)) (by_place n i v h)
+      (kept_heard c.limits c.settings.versions r p so, why_heard c.settings.versions r p) (unmoved r r (kept_elsewhere c.limits r so) refl)
+  act (lost_plainly n) i v h so =
+      let r = row_at i rows in
+      at_set (λ b u t. Goes r t elsewhere 0 0 0) rows (place_in ns n) i dropped (inside n v) (eqb (place_in ns n) i) refl
+      (unmoved r (dropped r) (kept_relinked c.limits r link.Closed None false false so (omega arith)) refl) (unmoved r r (kept_elsewhere c.limits r so) refl)
+  act (lost_finally n) i v h so =
+      let r = row_at i rows in
+      at_set (λ b u t. Goes r t (cond b parted elsewhere) 0 (cond b (lost_by u) 0) 0) rows (place_in ns n) i steps.parted (inside n v) (eqb n (number_at c.settings i)) (by_place n i v h)
+      (kept_parted c.limits r so, why_parted c.settings.versions r) (unmoved r r (kept_elsewhere c.limits r so) refl)
+  act (status_set l n m) i v h so =
       let r = row_at i rows in let b = is_changed s l m in
-      subst (λ (t : Row). Why c.settings.versions r t elsewhere) (sym (get_or-map (marked b) rows i fresh_row fresh_row h)) (why_kept c.settings.versions r (marked b r) elsewhere refl (λ k y. y))
-  act_why (announcement_set n) i v h = why_kept c.settings.versions (row_at i rows) (row_at i rows) elsewhere refl (λ k y. y)
-  act_why (train_data_set b) i v h = why_kept c.settings.versions (row_at i rows) (row_at i rows) elsewhere refl (λ k y. y)
-  act_why tick_passed i v h =
+      rw (get_or-map (marked b) rows i fresh_row fresh_row h) (unmoved r (marked b r) (kept_marked c.limits r b so) refl)
+  act (announcement_set n) i v h so = unmoved (row_at i rows) (row_at i rows) (kept_elsewhere c.limits (row_at i rows) so) refl
+  act (train_data_set b) i v h so = unmoved (row_at i rows) (row_at i rows) (kept_elsewhere c.limits (row_at i rows) so) refl
+  act tick_passed i v h so =
       let r = row_at i rows in
-      subst (λ (t : Row). Why c.settings.versions r t ticked) (sym (get_or-map (ticks.ticked c.limits) rows i fresh_row fresh_row h)) (why_ticked c.settings.versions c.limits r)
-  act_why settled i v h = why_kept c.settings.versions (row_at i rows) (row_at i rows) elsewhere refl (λ k y. y)
-  act_why powered_off i v h =
+      rw (get_or-map (ticks.ticked c.limits) rows i fresh_row fresh_row h) (kept_ticked c.limits r so, why_ticked c.settings.versions c.limits r)
+  act settled i v h so = unmoved (row_at i rows) (row_at i rows) (kept_elsewhere c.limits (row_at i rows) so) refl
+  act powered_off i v h so =
       let r = row_at i rows in
-      subst (λ (t : Row). Why c.settings.versions r t off) (sym (get_or-replicate (length rows) i fresh_row fresh_row h)) (why_off c.settings.versions r)
+      rw (get_or-replicate (length rows) i fresh_row fresh_row h) (kept_off c.limits r so, why_off c.settings.versions r)
 
   -- the sums
   at_unit : (n k : ℕ) → among n ns ≡ true → total (length rows) (λ i. cond (eqb n (number_at c.settings i)) k 0) ≡ k
@@ -231,16 +190,7 @@ module _ (c : Setup) (dist : Distinct c.settings.numbers) (s : Surroundings) (ro
   lost_total powered_off v = none_total
 
   void_total : (w : Step) → acted_voided w rows ≡ total (length rows) (void_at w rows)
-  void_total (connected n) = none_total
-  void_total (heard_from n p) = none_total
-  void_total (lost_plainly n) = none_total
-  void_total (lost_finally n) = none_total
-  void_total (status_set l n m) = none_total
-  void_total (announcement_set n) = none_total
-  void_total (train_data_set b) = none_total
-  void_total tick_passed = none_total
-  void_total settled = none_total
-  void_total powered_off = sym (total_list opened fresh_row rows)
+  void_total w = grind (arith, none_total, total_list opened fresh_row rows)
 
 takes_total : (ps : List (List Put)) → takes_each ps ≡ total (length ps) (λ i. takes_all (get_or ps i []))
 takes_total [] = refl
@@ -294,7 +244,7 @@ module _ (c : Setup) (good : Good c) (dist : Distinct c.settings.numbers) (w : S
       ∙ ap (λ x. ev (happening (number_at c.settings i) w) (fell (row_at i rows) (mid i)) ∷ x) (ap (orders_in c.settings.trip (number_at c.settings i)) puts_of.added ∙ read_at c.settings (surroundings_by w s) dist 0 i i puts_of.ps (omega arith) (omega (arith, ps_long)) (omega (arith, ps_long)))
 
   pub kept_at : (i : ℕ) → i < length rows → Kept c.limits (row_at i rows) (mid i) (happening (number_at c.settings i) w) (fell (row_at i rows) (mid i)) (ans_at c w rows i) (lost_at c w rows i) (void_at w rows i)
-  kept_at i h = act_kept c dist s rows fit w i v h (sound i h)
+  kept_at i h = (act c dist s rows fit w i v h (sound i h)).0
 
   pub at : (i : ℕ) → i < length rows → Both c.limits (row_at i rows) (row_at i (moment_of c s w rows free).rows) (events_at c.settings i rows (moment_of c s w rows free))
       (0 + takes_all (put_at i)) (ans_at c w rows i + 0) (0 + follows_all (put_at i) (mid i)) (lost_at c w rows i + 0) (void_at w rows i + 0)
@@ -323,15 +273,11 @@ module _ (c : Setup) (good : Good c) (dist : Distinct c.settings.numbers) (w : S
 
   pub reasoned : (i : ℕ) → i < length rows → Why c.settings.versions (row_at i rows) (row_at i (moment_of c s w rows free).rows) (happening (number_at c.settings i) w)
   reasoned i h k n =
-      let y = act_why c dist s rows fit w i v h k n in
+      let y = (act c dist s rows fit w i v h (sound i h)).1 k n in
       ((λ e. y.0 (sym (fell_after i) ∙ e)), (λ e. fell_after i ∙ y.1 e))
 
   pub for_all : AllByRecursion (ForUnit c.settings) (moment_of c s w rows free).added
   for_all = subst (λ fs. AllByRecursion (ForUnit c.settings) fs) (sym puts_of.added) (for_units_lem c.settings (surroundings_by w s) 0 puts_of.ps (omega (arith, ps_long)))
-
-  pub places : length (moment_of c s w rows free).added ≤ free
-  places = by_cond (λ (t : Settled). length t.added ≤ free) (ends_settling w) (settle c (surroundings_by w s) [] (acted c s w rows) free) (ended (acted c s w rows))
-      (λ _. settle_places c (surroundings_by w s) [] (acted c s w rows) free) (λ _. omega arith)
 
   act_few : (t : State) → Top t → sum_by (here t) (acted c s w rows) ≤ sum_by (here t) rows
   act_few t top =
@@ -348,20 +294,10 @@ module _ (c : Setup) (good : Good c) (dist : Distinct c.settings.numbers) (w : S
       (λ _. let z = settle_few t c (surroundings_by w s) ok [] (acted c s w rows) free (omega arith) in omega arith) (λ _. omega arith)
 
   only_da : (n : ℕ) (pre : List Row) (r : Row) (rest : List Row) (o : Order) → c.answers (view_of (surroundings_by w s) n pre r rest) ≡ Some o → same_state (target_of o) DataAvailable ≡ true → (some_at DataAvailable pre || some_at DataAvailable rest) ≡ false
-  only_da n pre r rest ToConfiguration e q = cc
-  only_da n pre r rest ToDataEntry e q = cc
-  only_da n pre r rest ToColdStandby e q = cc
-  only_da n pre r rest ToColdStandbyConditionally e q = cc
-  only_da n pre r rest ToHotStandby e q = cc
-  only_da n pre r rest ToDataAvailable e q = good.da (view_of (surroundings_by w s) n pre r rest) e
+  only_da n pre r rest o e q = let g = good.da (view_of (surroundings_by w s) n pre r rest) in grind arith
 
   only_hs : (n : ℕ) (pre : List Row) (r : Row) (rest : List Row) (o : Order) → c.answers (view_of (surroundings_by w s) n pre r rest) ≡ Some o → same_state (target_of o) HotStandby ≡ true → (some_at HotStandby pre || some_at HotStandby rest) ≡ false
-  only_hs n pre r rest ToConfiguration e q = cc
-  only_hs n pre r rest ToDataEntry e q = cc
-  only_hs n pre r rest ToColdStandby e q = cc
-  only_hs n pre r rest ToColdStandbyConditionally e q = cc
-  only_hs n pre r rest ToHotStandby e q = good.hs (view_of (surroundings_by w s) n pre r rest) e
-  only_hs n pre r rest ToDataAvailable e q = cc
+  only_hs n pre r rest o e q = let g = good.hs (view_of (surroundings_by w s) n pre r rest) in grind arith
 
   pub alone : Alone rows → Alone (moment_of c s w rows free).rows
   alone h = (few DataAvailable (refl, refl, refl) only_da h.0, few HotStandby (refl, refl, refl) only_hs h.1)
