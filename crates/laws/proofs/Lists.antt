@@ -1,6 +1,6 @@
 -- Open orders along events, and sums.
 use Rattle.std.proofs.Common.{◌≡◌, ℕ, zero, suc, ◌+◌, ◌<◌, ◌≤◌, true, cond, eqb, ◌↔◌, List, [], ◌∷◌, ◌++◌, length, get_or, sum_by, Option, refl, ap, arith}
-use lib.Dec.{eqb-zero-suc, eqb-suc-zero, eqb-suc-suc}
+use lib.Dec.{eqb-zero-suc}
 use Rattle.std.proofs.lemmas.List.Sums.{sum_by-cons}
 use Rattle.vocabulary.specs.declared.order.Order.{Order}
 use Rattle.laws.specs.Events.{Event}
@@ -44,7 +44,7 @@ each_once s (e ∷ es) = omega (arith, one s e, each_once (next s e) es)
 -- sums over the units
 pub total_same : (n : ℕ) (f g : ℕ → ℕ) → ((i : ℕ) → i < n → f i ≡ g i) → total n f ≡ total n g
 total_same zero f g h = refl
-total_same (suc n) f g h = omega (arith, h 0 (omega arith), total_same n (λ i. f (suc i)) (λ i. g (suc i)) (λ i k. h (suc i) (omega arith)))
+total_same (suc n) f g h = let ih = total_same n (λ i. f (suc i)) (λ i. g (suc i)) (λ i k. h (suc i) (omega arith)) in grind arith
 
 pub total_plus : (n : ℕ) (f g : ℕ → ℕ) → total n (λ i. f i + g i) ≡ total n f + total n g
 total_plus zero f g = refl
@@ -52,7 +52,7 @@ total_plus (suc n) f g = omega (arith, total_plus n (λ i. f (suc i)) (λ i. g (
 
 pub total_none : (n : ℕ) (f : ℕ → ℕ) → ((i : ℕ) → i < n → f i ≡ 0) → total n f ≡ 0
 total_none zero f h = refl
-total_none (suc n) f h = omega (arith, h 0 (omega arith), total_none n (λ i. f (suc i)) (λ i k. h (suc i) (omega arith)))
+total_none (suc n) f h = let ih = total_none n (λ i. f (suc i)) (λ i k. h (suc i) (omega arith)) in grind arith
 
 pub total_list : {A : Type 0} (g : A → ℕ) (d : A) (xs : List A) → total (length xs) (λ i. g (get_or xs i d)) ≡ sum_by g xs
 total_list g d [] = refl
@@ -60,7 +60,7 @@ total_list g d (x ∷ xs) = omega (arith, total_list g d xs, sum_by-cons g x xs)
 
 pub total_le : (n : ℕ) (f g : ℕ → ℕ) → ((i : ℕ) → i < n → f i ≤ g i) → total n f ≤ total n g
 total_le zero f g h = omega arith
-total_le (suc n) f g h = omega (arith, h 0 (omega arith), total_le n (λ i. f (suc i)) (λ i. g (suc i)) (λ i k. h (suc i) (omega arith)))
+total_le (suc n) f g h = let ih = total_le n (λ i. f (suc i)) (λ i. g (suc i)) (λ i k. h (suc i) (omega arith)) in grind arith
 
 zeros : (n v : ℕ) → total n (λ i. cond (eqb 0 (suc i)) v 0) ≡ 0
 zeros n v = total_none n (λ i. cond (eqb 0 (suc i)) v 0) (λ i k. ap (λ b. cond b v 0) (eqb-zero-suc i))
@@ -68,5 +68,4 @@ zeros n v = total_none n (λ i. cond (eqb 0 (suc i)) v 0) (λ i k. ap (λ b. con
 pub total_at : (n x v : ℕ) → x < n → total n (λ i. cond (eqb x i) v 0) ≡ v
 total_at zero x v h = omega arith
 total_at (suc n) zero v h = omega (arith, zeros n v)
-total_at (suc n) (suc x) v h =
-    omega (arith, ap (λ b. cond b v 0) (eqb-suc-zero x), total_same n (λ i. cond (eqb (suc x) (suc i)) v 0) (λ i. cond (eqb x i) v 0) (λ i k. ap (λ b. cond b v 0) (eqb-suc-suc x i)), total_at n x v (omega arith))
+total_at (suc n) (suc x) v h = let ih = total_at n x v (omega arith) in grind arith

@@ -30,7 +30,7 @@ use Rattle.laws.specs.OpenOrders as orders
 use Rattle.laws.specs.Lawful.{Alone, total, Counted, holds_failure, is_power_off, is_off, is_failure_order, ForUnit}
 use Rattle.laws.proofs.Lists.{total_same, total_none, total_list, total_le, total_at}
 use Rattle.laws.proofs.Rows.{opens, Sound, Kept, Top, kept_elsewhere, kept_heard, kept_ticked, kept_parted, kept_relinked, kept_marked, kept_off}
-use Rattle.laws.proofs.Whys.{Why, why_kept, why_heard, why_parted, why_ticked, why_off}
+use Rattle.laws.proofs.Whys.{Why, why_heard, why_parted, why_ticked, why_off}
 use Rattle.laws.proofs.Places.{Distinct, same_num, apart, placed, same_place}
 use Rattle.laws.proofs.Settles.{by_cond, events_of, Puts, nothing, settle_puts, each_at, each_length, fit_at, read_at, put_each, for_units_lem, takes_each, follows_each}
 use Rattle.laws.proofs.Puts.{Both, both, ev, took_held, fell_took, here, settle_few}
@@ -125,7 +125,7 @@ module _ (c : Setup) (dist : Distinct c.settings.numbers) (s : Surroundings) (ro
   Goes r t w ans lst vd = Kept c.limits r t w (fell r t) ans lst vd × Why c.settings.versions r t w
 
   unmoved : (r t : Row) → Kept c.limits r t elsewhere (fell r t) 0 0 0 → is_failure t.held ≡ is_failure r.held → Goes r t elsewhere 0 0 0
-  unmoved r t k e = (k, why_kept c.settings.versions r t elsewhere e (λ x y. y))
+  unmoved r t k e = grind arith
 
   act : (w : Step) (i : ℕ) → Valid ns w → i < length rows → Sound c.limits (row_at i rows) →
       Goes (row_at i rows) (row_at i (acted c s w rows)) (happening (number_at c.settings i) w) (ans_at c w rows i) (lost_at c w rows i) (void_at w rows i)
@@ -148,12 +148,12 @@ module _ (c : Setup) (dist : Distinct c.settings.numbers) (s : Surroundings) (ro
   act (status_set l n m) i v h so =
       let r = row_at i rows in let b = is_changed s l m in
       rw (get_or-map (marked b) rows i fresh_row fresh_row h) (unmoved r (marked b r) (kept_marked c.limits r b so) refl)
-  act (announcement_set n) i v h so = unmoved (row_at i rows) (row_at i rows) (kept_elsewhere c.limits (row_at i rows) so) refl
-  act (train_data_set b) i v h so = unmoved (row_at i rows) (row_at i rows) (kept_elsewhere c.limits (row_at i rows) so) refl
+  act (announcement_set n) i v h so = grind arith
+  act (train_data_set b) i v h so = grind arith
   act tick_passed i v h so =
       let r = row_at i rows in
       rw (get_or-map (ticks.ticked c.limits) rows i fresh_row fresh_row h) (kept_ticked c.limits r so, why_ticked c.settings.versions c.limits r)
-  act settled i v h so = unmoved (row_at i rows) (row_at i rows) (kept_elsewhere c.limits (row_at i rows) so) refl
+  act settled i v h so = grind arith
   act powered_off i v h so =
       let r = row_at i rows in
       rw (get_or-replicate (length rows) i fresh_row fresh_row h) (kept_off c.limits r so, why_off c.settings.versions r)
@@ -198,7 +198,7 @@ takes_total (p ∷ ps) = omega (arith, takes_total ps)
 
 follows_total : (ps : List (List Put)) (rs : List Row) → length ps ≡ length rs → follows_each ps rs ≡ total (length ps) (λ i. follows_all (get_or ps i []) (get_or rs i fresh_row))
 follows_total [] rs e = refl
-follows_total (p ∷ ps) [] e = let z : ◌≡◌ {A = ℕ} 0 1 = omega arith in omega arith
+follows_total (p ∷ ps) [] e = grind arith
 follows_total (p ∷ ps) (r ∷ rs) e = omega (arith, follows_total ps rs (omega arith))
 
 no_order : (x : ℕ) (w : Step) → is_failure_order (happening x w) ≡ 0
@@ -294,10 +294,10 @@ module _ (c : Setup) (good : Good c) (dist : Distinct c.settings.numbers) (w : S
       (λ _. let z = settle_few t c (surroundings_by w s) ok [] (acted c s w rows) free (omega arith) in omega arith) (λ _. omega arith)
 
   only_da : (n : ℕ) (pre : List Row) (r : Row) (rest : List Row) (o : Order) → c.answers (view_of (surroundings_by w s) n pre r rest) ≡ Some o → same_state (target_of o) DataAvailable ≡ true → (some_at DataAvailable pre || some_at DataAvailable rest) ≡ false
-  only_da n pre r rest o e q = let g = good.da (view_of (surroundings_by w s) n pre r rest) in grind arith
+  only_da n pre r rest o e q = grind arith
 
   only_hs : (n : ℕ) (pre : List Row) (r : Row) (rest : List Row) (o : Order) → c.answers (view_of (surroundings_by w s) n pre r rest) ≡ Some o → same_state (target_of o) HotStandby ≡ true → (some_at HotStandby pre || some_at HotStandby rest) ≡ false
-  only_hs n pre r rest o e q = let g = good.hs (view_of (surroundings_by w s) n pre r rest) in grind arith
+  only_hs n pre r rest o e q = grind arith
 
   pub alone : Alone rows → Alone (moment_of c s w rows free).rows
   alone h = (few DataAvailable (refl, refl, refl) only_da h.0, few HotStandby (refl, refl, refl) only_hs h.1)

@@ -33,9 +33,7 @@ not_true v0 e = grind arith
 
 among_push : (x n : ℕ) (e : List ℕ) → among x (e ++ n ∷ []) ≡ false → (among x e ≡ false) × (eqb x n ≡ false)
 among_push x n [] h = (refl, or_l (eqb x n) false h)
-among_push x n (m ∷ e) h =
-    let t = among_push x n e (or_r (eqb x m) (among x (e ++ n ∷ [])) h) in
-    (ap (λ b. b || among x e) (or_l (eqb x m) (among x (e ++ n ∷ [])) h) ∙ t.0, t.1)
+among_push x n (m ∷ e) h = let ih = among_push x n e (or_r (eqb x m) (among x (e ++ n ∷ [])) h) in grind arith
 
 record Different (e ns : List ℕ) : Type 0 where
   new : (i : ℕ) → i < length ns → among (get_or ns i 0) e ≡ false
@@ -55,7 +53,7 @@ different_cons e n ns h d = record { new = new; distinct = dist }
     dist (suc i) (suc j) a b q = ap suc (d.distinct i j (omega arith) (omega arith) q)
 
 different : (e ns : List ℕ) (place : ℕ) → wrong_from e ns place ≡ None → Different e ns
-different e [] place h = record { new = λ i k. absurd (omega arith); distinct = λ i j a b q. absurd (omega arith) }
+different e [] place h = grind arith
 different e (n ∷ ns) place h = go (fits_behind e n) refl h (λ k. different (e ++ n ∷ []) ns (place + 1) k)
   where
     go : (b : Bool) → fits_behind e n ≡ b → cond b (wrong_from (e ++ n ∷ []) ns (place + 1)) (Some place) ≡ None → (wrong_from (e ++ n ∷ []) ns (place + 1) ≡ None → Different (e ++ n ∷ []) ns) → Different e (n ∷ ns)
@@ -71,7 +69,7 @@ pub record Placed (ns : List ℕ) (n : ℕ) : Type 0 where
   pub number : get_or ns (place_in ns n) 0 ≡ n
 
 pub placed : (ns : List ℕ) (n : ℕ) → among n ns ≡ true → Placed ns n
-placed [] n h = let z : ◌≡◌ {A = ℕ} 0 1 = cc in absurd (let y : ⊥ = omega arith in y)
+placed [] n h = grind arith
 placed (m ∷ ms) n h = go (eqb n m) refl h (λ k. placed ms n k)
   where
     go : (b : Bool) → eqb n m ≡ b → (b || among n ms) ≡ true → (among n ms ≡ true → Placed ms n) → Placed (m ∷ ms) n
@@ -83,13 +81,10 @@ placed (m ∷ ms) n h = go (eqb n m) refl h (λ k. placed ms n k)
         let p = ih k in
         record { inside = omega (arith, p.inside); number = ap (λ i. get_or (m ∷ ms) i 0) e ∙ p.number }
 
-or_true : (x y : Bool) → y ≡ true → (x || y) ≡ true
-or_true v0 y e = grind arith
-
 pub among_at : (ns : List ℕ) (i : ℕ) → i < length ns → among (get_or ns i 0) ns ≡ true
 among_at [] i h = absurd (omega arith)
 among_at (n ∷ ns) zero h = ap (λ b. b || among n ns) (eq_yes n)
-among_at (n ∷ ns) (suc i) h = or_true (eqb (get_or ns i 0) n) (among (get_or ns i 0) ns) (among_at ns i (omega arith))
+among_at (n ∷ ns) (suc i) h = let ih = among_at ns i (omega arith) in grind arith
 
 -- by number, and by place
 pub same_place : (ns : List ℕ) → Distinct ns → (n i : ℕ) → among n ns ≡ true → i < length ns → eqb n (get_or ns i 0) ≡ eqb (place_in ns n) i

@@ -5,18 +5,17 @@ use Rattle.vocabulary.specs.States.{state_number, target_of}
 use Rattle.vocabulary.specs.declared.cause.Cause.{Cause}
 use Rattle.vocabulary.specs.declared.order.Order.{Order}
 use Rattle.vocabulary.specs.declared.state.State.{State}
-use Rattle.steps.specs.Rows.{same_state, is_failure, is_checked, order_in, open_count, aims_at, at_state, some_at}
+use Rattle.steps.specs.Rows.{same_state, is_failure, is_checked, order_in, aims_at, at_state, some_at}
 use Rattle.steps.specs.Setups.{Setup, number_at}
 use Rattle.steps.specs.Views.{view_of}
 use Rattle.steps.specs.Puts.{Put, reply, status, failure, ordered, replies, orders, wanted, took_all, takes, takes_all, follows, follows_all}
 use Rattle.steps.specs.Puts as puts
 use Rattle.steps.specs.Settling.{wanted_at, Settled, ended, settled_row, settle}
-use Rattle.steps.specs.declared.row.OpenOrder.{OpenOrder}
 use Rattle.steps.specs.declared.row.Row.{Row}
 use Rattle.steps.specs.declared.surroundings.Surroundings.{Surroundings}
-use Rattle.laws.specs.Events.{Event, Happening, took, took_failure, fell}
-use Rattle.laws.specs.OpenOrders.{Open, open_from, along, taken, answered, followed, failed, voided, is_open, is_tick}
-use Rattle.laws.specs.Lawful.{ForTime, Due, is_off, is_failure_order}
+use Rattle.laws.specs.Events.{Event, Happening, fell}
+use Rattle.laws.specs.OpenOrders.{Open, open_from, along, taken, answered, followed, failed, voided}
+use Rattle.laws.specs.Lawful.{is_off, is_failure_order}
 use Rattle.laws.proofs.Lists.{Timely, open_append, along_append, timely_append}
 use Rattle.laws.proofs.Rows.{bit, bit_one, opens, Sound, Kept}
 use Rattle.laws.proofs.Places.{or_l, or_r}
@@ -48,12 +47,6 @@ pub record Both (lim : Order → ℕ) (r t : Row) (es : List Event) (tk ans fo l
   pub fails : lst ≡ along failed (opens r.open) es
   pub voids : vd ≡ along voided (opens r.open) es
 
-never : (lim : Order → ℕ) (w : Happening) (s : Option Open) → is_tick w ≡ false → ForTime None ↔ ((is_tick w ≡ true) × Due lim s)
-never lim w s e = grind arith
-
-count_open : (g : Option OpenOrder) → open_count g ≡ is_open (opens g)
-count_open v0 = grind arith
-
 pub sent_append : (n : ℕ) (es fs : List Event) → sent_from n (es ++ fs) ≡ sent_from (sent_from n es) fs
 sent_append n [] fs = refl
 sent_append n (e ∷ es) fs = sent_append (cond (is_off e.what) 0 n + is_failure_order e.what) es fs
@@ -82,52 +75,19 @@ both_append lim r t u es fs a1 a2 a3 a4 a5 b1 b2 b3 b4 b5 x y =
 
 module _ (lim : Order → ℕ) (low : (o : Order) → 1 ≤ lim o) where
   put_row : (r : Row) (q : Put) → Sound lim r → Fit q r → Both lim r (puts.took q r) (put_events q) (takes q) 0 (follows q r) 0 0
-  put_row r (reply m) so fit = record { moves = refl; sound = record { rest = so.rest; young = so.young }; sent = λ n h. h; few = λ n h. tt; time = tt; takes = refl; answers = refl; follows = refl; fails = refl; voids = refl }
-  put_row r status so fit = record { moves = refl; sound = record { rest = so.rest; young = so.young }; sent = λ n h. h; few = λ n h. tt; time = tt; takes = refl; answers = refl; follows = refl; fails = refl; voids = refl }
-  put_row r (ordered o) so fit = record {
-    moves = refl;
-    sound = record { rest = λ e. (let y : ◌≡◌ {A = ℕ} 0 1 = cc in absurd (let w : ⊥ = omega arith in w)); young = low o };
-    sent = λ n h. omega arith;
-    few = λ n h. (omega (arith, bit_one (is_failure r.held)), tt);
-    time = (never lim (took o) (opens r.open) refl, tt);
-    takes = refl;
-    answers = refl;
-    follows = omega (arith, count_open r.open);
-    fails = refl;
-    voids = refl;
-  }
-  put_row r failure so fit = record {
-    moves = refl;
-    sound = record { rest = so.rest; young = so.young };
-    sent = λ n h. let z = ap bit fit in omega arith;
-    few = λ n h. ((let z = ap bit fit in omega (arith, bit_one (is_failure r.held))), tt);
-    time = (never lim took_failure (opens r.open) refl, tt);
-    takes = refl;
-    answers = refl;
-    follows = refl;
-    fails = refl;
-    voids = refl;
-  }
+  put_row r (reply m) so fit = grind arith
+  put_row r status so fit = grind arith
+  put_row r (ordered o) so fit = grind arith
+  put_row r failure so fit = grind arith
 
   put_rows : (r : Row) (qs : List Put) → Sound lim r → Fits qs r → Both lim r (took_all qs r) (events_of qs) (takes_all qs) 0 (follows_all qs r) 0 0
-  put_rows r [] so fit = record { moves = refl; sound = so; sent = λ n h. h; few = λ n h. tt; time = tt; takes = refl; answers = refl; follows = refl; fails = refl; voids = refl }
+  put_rows r [] so fit = grind arith
   put_rows r (q ∷ qs) so fit =
       let x = put_row r q so fit.0 in
       both_append lim r (puts.took q r) (took_all qs (puts.took q r)) (put_events q) (events_of qs) (takes q) 0 (follows q r) 0 0 (takes_all qs) 0 (follows_all qs (puts.took q r)) 0 0 x (put_rows (puts.took q r) qs x.sound fit.1)
 
   kept_both : (r t : Row) (w : Happening) (f : Option Cause) (ans lst vd : ℕ) → is_failure_order w ≡ 0 → Kept lim r t w f ans lst vd → Both lim r t (ev w f ∷ []) 0 ans 0 lst vd
-  kept_both r t w f ans lst vd nof k = record {
-    moves = k.moves;
-    sound = k.sound;
-    sent = λ n h. omega (arith, k.sent n h);
-    few = λ n h. (omega (arith, k.sent n h, bit_one (is_failure t.held)), tt);
-    time = (k.time, tt);
-    takes = omega (arith, k.takes);
-    answers = omega (arith, k.answers);
-    follows = omega (arith, k.follows);
-    fails = omega (arith, k.fails);
-    voids = omega (arith, k.voids);
-  }
+  kept_both r t w f ans lst vd nof k = grind arith
 
   pub both : (r t : Row) (w : Happening) (f : Option Cause) (ans lst vd : ℕ) (p : List Put) → is_failure_order w ≡ 0 → Kept lim r t w f ans lst vd → Fits p t →
       Both lim r (took_all p t) (ev w f ∷ events_of p) (0 + takes_all p) (ans + 0) (0 + follows_all p t) (lst + 0) (vd + 0)

@@ -83,7 +83,7 @@ puts_cons c s k j qs r rest t e fit h = record {
 }
 
 pub nothing : (c : Setup) (s : Surroundings) (k : ℕ) (rest : List Row) → Puts c.settings s k rest (ended rest)
-nothing c s k [] = record { ps = []; long = refl; rows = refl; added = refl; taken = refl; followed = refl; fits = tt }
+nothing c s k [] = grind arith
 nothing c s k (r ∷ rest) = puts_cons c s k k [] r rest (ended rest) refl tt (nothing c s (suc k) rest)
 
 fits_take : (n : ℕ) (qs : List Put) (r : Row) → Fits qs r → Fits (take n qs) r
@@ -133,7 +133,7 @@ settle_places c s pre (r ∷ rest) free =
 -- by place
 pub each_at : (ps : List (List Put)) (rs : List Row) (i : ℕ) → length ps ≡ length rs → get_or (took_each ps rs) i fresh_row ≡ took_all (get_or ps i []) (get_or rs i fresh_row)
 each_at [] rs i e = refl
-each_at (p ∷ ps) [] i e = let z : ◌≡◌ {A = ℕ} 0 1 = omega arith in absurd (let q : ⊥ = omega arith in q)
+each_at (p ∷ ps) [] i e = grind arith
 each_at (p ∷ ps) (r ∷ rs) zero e = refl
 each_at (p ∷ ps) (r ∷ rs) (suc i) e = each_at ps rs i (omega arith)
 
@@ -144,7 +144,7 @@ each_length (p ∷ ps) (r ∷ rs) e = ap suc (each_length ps rs (omega arith))
 
 pub fit_at : (ps : List (List Put)) (rs : List Row) (i : ℕ) → length ps ≡ length rs → FitEach ps rs → Fits (get_or ps i []) (get_or rs i fresh_row)
 fit_at [] rs i e h = tt
-fit_at (p ∷ ps) [] i e h = let z : ◌≡◌ {A = ℕ} 0 1 = omega arith in absurd (let q : ⊥ = omega arith in q)
+fit_at (p ∷ ps) [] i e h = grind arith
 fit_at (p ∷ ps) (r ∷ rs) zero e h = h.0
 fit_at (p ∷ ps) (r ∷ rs) (suc i) e h = fit_at ps rs i (omega arith) h.1
 
@@ -167,7 +167,7 @@ module _ (a : Agreed) (s : Surroundings) where
 
   others : (n x : ℕ) (qs : List Put) → eqb n x ≡ false → orders_in a.trip x (frames_of a s n qs) ≡ []
   others n x [] e = refl
-  others n x (q ∷ qs) e = ap (λ y. y ++ orders_in a.trip x (frames_of a s n qs)) (read1 n x q ∙ ap (λ b. cond b (put_events q) []) e) ∙ others n x qs e
+  others n x (q ∷ qs) e = let ih = others n x qs e in grind arith
 
   module _ (dist : Distinct a.numbers) where
     behind : (i k : ℕ) (ps : List (List Put)) → i < k → k + length ps ≤ length a.numbers → orders_in a.trip (number_at a i) (frames_from a s k ps) ≡ []

@@ -1,10 +1,10 @@
 -- The open order that is counted along is the order that was taken and that nothing closed since.
-use Rattle.std.proofs.Common.{◌≡◌, ℕ, ◌+◌, Bool, true, false, cond, ◌||◌, ◌⊎◌, ◌↔◌, List, [], ◌∷◌, ◌++◌, Some, None, Option, sym, refl, ap, ◌∙◌, subst, inl, inr, arith}
+use Rattle.std.proofs.Common.{◌≡◌, ℕ, ◌+◌, Bool, true, false, cond, ◌||◌, ◌⊎◌, ◌↔◌, List, [], ◌∷◌, ◌++◌, Some, None, Option, sym, refl, ap, ◌∙◌, inl, inr, arith}
 use Rattle.vocabulary.specs.declared.cause.Cause.{Cause}
 use Rattle.vocabulary.specs.declared.order.Order.{Order}
 use Rattle.steps.specs.Rows.{is_conditional}
 use Rattle.laws.specs.Events.{Event, Happening, just, took, took_failure, reported, asked, noticed, greeted, parted, ticked, off, elsewhere}
-use Rattle.laws.specs.OpenOrders.{Open, is_answer, after, unless_failed, next, open_from, open_order, closes, NoneCloses, is_tick, is_notice, some_notice, since_notice, ticks_in, Waits}
+use Rattle.laws.specs.OpenOrders.{Open, after, unless_failed, next, open_from, open_order, closes, NoneCloses, is_tick, is_notice, some_notice, since_notice, ticks_in, Waits}
 use Rattle.laws.proofs.Lists.{open_append}
 
 abbrev open' : Order → ℕ → Open
@@ -25,23 +25,20 @@ step elsewhere o k = k
 or_none : (b c : Bool) → (b || c) ≡ false → (b ≡ false) × (c ≡ false)
 or_none v0 c e = grind arith
 
-one : (o : Order) (k : ℕ) (e : Event) → closes o e ≡ false → next (Some (open' o k)) e ≡ Some (open' o (step e.what o k))
-one o k e h = grind arith
-
 abbrev steps : Order → ℕ → List Event → ℕ
 steps o k [] = k
 steps o k (e ∷ es) = steps o (step e.what o k) es
 
 all : (o : Order) (k : ℕ) (es : List Event) → NoneCloses o es → open_from (Some (open' o k)) es ≡ Some (open' o (steps o k es))
 all o k [] h = refl
-all o k (e ∷ es) h = ap (λ s. open_from s es) (one o k e h.0) ∙ all o (step e.what o k) es h.1
+all o k (e ∷ es) h = let ih = all o (step e.what o k) es h.1 in grind arith
 
 step_plain : (o : Order) (k : ℕ) (w : Happening) → (is_conditional o ≡ false) ⊎ (is_notice w ≡ false) → step w o k ≡ k + cond (is_tick w) 1 0
 step_plain o k v2 h = grind arith
 
 plain : (o : Order) (k : ℕ) (es : List Event) → is_conditional o ≡ false → steps o k es ≡ k + ticks_in es
 plain o k [] h = omega arith
-plain o k (e ∷ es) h = omega (arith, plain o (step e.what o k) es h, step_plain o k e.what (inl h))
+plain o k (e ∷ es) h = let ih = plain o (step e.what o k) es h in grind arith
 
 quiet : (o : Order) (k : ℕ) (es : List Event) → some_notice es ≡ false → steps o k es ≡ k + ticks_in es
 quiet o k [] h = omega arith
@@ -51,7 +48,7 @@ quiet o k (e ∷ es) h =
 
 quiet_since : (es : List Event) → some_notice es ≡ false → since_notice es ≡ es
 quiet_since [] h = refl
-quiet_since (e ∷ es) h = ap (λ b. cond b (since_notice es) (e ∷ es)) h
+quiet_since (e ∷ es) h = grind arith
 
 notice_step : (o : Order) (k : ℕ) (w : Happening) → is_conditional o ≡ true → is_notice w ≡ true → step w o k ≡ 0
 notice_step o k v2 c h = grind arith
@@ -65,7 +62,7 @@ noisy_at o k e es c h true x ih = ih x
 noisy_at o k e es c h false x ih = quiet o (step e.what o k) es x ∙ omega (arith, notice_step o k e.what c (or_true (is_notice e.what) (some_notice es) h x), ap ticks_in (quiet_since es x))
 
 noisy : (o : Order) (k : ℕ) (es : List Event) → is_conditional o ≡ true → some_notice es ≡ true → steps o k es ≡ ticks_in (since_notice es)
-noisy o k [] c h = let z : ◌≡◌ {A = ℕ} 0 1 = cc in omega arith
+noisy o k [] c h = grind arith
 noisy o k (e ∷ es) c h =
     noisy_at o k e es c h (some_notice es) refl (λ x. noisy o (step e.what o k) es c x) ∙ ap (λ b. ticks_in (cond b (since_notice es) (e ∷ es))) (sym h)
 
@@ -84,9 +81,6 @@ counting o es = go (is_conditional o) refl
 abbrev From : Option Open → Event → Order → Type 0
 From s e o = (e ≡ just (took o)) ⊎ ((j : ℕ) × (s ≡ Some (open' o j)) × (closes o e ≡ false))
 
-cond_open : (b : Bool) (v : Open) (o : Order) (k : ℕ) → cond b None (Some v) ≡ Some (open' o k) → (b ≡ false) × (v ≡ open' o k)
-cond_open v0 v o k e = grind arith
-
 of_some : (v w : Open) → Some v ≡ Some w → v ≡ w
 of_some v w e = grind arith
 
@@ -97,18 +91,16 @@ cond_order : (b : Bool) (v : Open) (o : Order) (k : ℕ) → cond b (Some (open'
 cond_order v0 v o k e = grind arith
 
 origin : (s : Option Open) (w : Happening) (f : Option Cause) (o : Order) (k : ℕ) → unless_failed f (after w s) ≡ Some (open' o k) → From s (record { what = w; fails = f }) o
-origin s w (Some c) o k e = let z : ◌≡◌ {A = ℕ} 0 1 = cc in absurd (let y : ⊥ = omega arith in y)
-origin s (took q) None o k e = inl (let h : q ≡ o = same_order (open' q 0) (open' o k) e in ap (λ x. just (took x)) h)
+origin s w (Some c) o k e = grind arith
+origin s (took q) None o k e = grind arith
 origin s took_failure None o k e = inr (k, e, refl)
-origin None (reported t) None o k e = let z : ◌≡◌ {A = ℕ} 0 1 = cc in absurd (let y : ⊥ = omega arith in y)
-origin (Some v) (reported t) None o k e =
-    let p = cond_open (is_answer v.order t) v o k e in
-    inr (k, ap Some p.1, subst (λ (y : Open). (is_answer y.order t || false) ≡ false) p.1 (ap (λ b. b || false) p.0))
-origin None noticed None o k e = let z : ◌≡◌ {A = ℕ} 0 1 = cc in absurd (let y : ⊥ = omega arith in y)
+origin None (reported t) None o k e = grind arith
+origin (Some v) (reported t) None o k e = grind arith
+origin None noticed None o k e = grind arith
 origin (Some v) noticed None o k e = inr (v.ticks, ap (λ x. Some (open' x v.ticks)) (cond_order (is_conditional v.order) v o k e), refl)
-origin None ticked None o k e = let z : ◌≡◌ {A = ℕ} 0 1 = cc in absurd (let y : ⊥ = omega arith in y)
+origin None ticked None o k e = grind arith
 origin (Some v) ticked None o k e = inr (v.ticks, (let h : v.order ≡ o = same_order (open' v.order (v.ticks + 1)) (open' o k) e in ap (λ x. Some (open' x v.ticks)) h), refl)
-origin s off None o k e = let z : ◌≡◌ {A = ℕ} 0 1 = cc in absurd (let y : ⊥ = omega arith in y)
+origin s off None o k e = grind arith
 origin s (asked y) None o k e = inr (k, e, refl)
 origin s (greeted y) None o k e = inr (k, e, refl)
 origin s parted None o k e = inr (k, e, refl)
@@ -133,7 +125,7 @@ resumed : (past since : List Event) (o : Order) → NoneCloses o since → open_
 resumed past since o h = open_append None past (just (took o) ∷ since) ∙ all o 0 since h ∙ ap (λ k. Some (open' o k)) (counting o since)
 
 waits_of : (es : List Event) (w : Open) → open_order es ≡ Some w → Begun None es w.order → Waits w es
-waits_of es w e (inl t) = let z : ◌≡◌ {A = ℕ} 0 1 = (let q = t.1 in cc) in absurd (let y : ⊥ = omega arith in y)
+waits_of es w e (inl t) = grind arith
 waits_of es w e (inr t) =
     let r = resumed t.0 t.1 w.order t.3 in
     let q : open_order es ≡ Some (open' w.order (ticks_in (cond (is_conditional w.order) (since_notice t.1) t.1))) = ap open_order t.2 ∙ r in

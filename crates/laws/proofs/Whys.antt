@@ -23,8 +23,6 @@ abbrev pub Why : Versions → Row → Row → Happening → Type 0
 Why v r t w = (c : Cause) → (ForTime (Some c) → ⊥) → (fell r t ≡ Some c) ↔ ((is_failure r.held ≡ false) × Reason v r w c)
 
 -- what keeps the held state, where there is no reason
-pub why_kept : (v : Versions) (r t : Row) (w : Happening) → is_failure t.held ≡ is_failure r.held → ((c : Cause) → Reason v r w c → ⊥) → Why v r t w
-why_kept v r t w e bare = grind arith
 
 -- a packet, by what it is to its row
 why_report : (v : Versions) (r : Row) (s : ℕ) (b1 b2 b3 b4 b5 b6 : Bool) →
