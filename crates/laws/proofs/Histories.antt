@@ -1,5 +1,5 @@
 -- Moments one behind the other.
-use Rattle.std.proofs.Common.{◌≡◌, ℕ, zero, suc, ◌+◌, ◌-◌, ◌<◌, ◌≤◌, Bool, true, false, cond, leb, List, [], ◌∷◌, ◌++◌, map, length, drop, replicate, None, Ok, Err, Option, Result, sym, refl, ap, ◌∙◌, subst, append_assoc, append-nil, arith, length-append}
+use Rattle.std.proofs.Common.{◌≡◌, ℕ, zero, suc, ◌+◌, ◌-◌, ◌<◌, ◌≤◌, Bool, true, false, cond, List, [], ◌∷◌, ◌++◌, map, length, drop, replicate, None, Ok, Err, Option, Result, sym, refl, ap, ◌∙◌, subst, append_assoc, append-nil, arith, length-append}
 use Rattle.std.specs.List.{AllByRecursion}
 use Rattle.std.proofs.ByRecursion.{All-append}
 use Rattle.vocabulary.specs.Levels.{level_number, levels, mode_number, modes}
@@ -17,7 +17,7 @@ use Rattle.wire.specs.Packets.{Content}
 use Rattle.steps.specs.Rows.{is_failure}
 use Rattle.steps.specs.Setups.{Setup, number_at}
 use Rattle.steps.specs.Settling.{Settled, ended, settle}
-use Rattle.steps.specs.Calls.{Call, connect, message, lost, status, announce, train_data, tick, run, power_off, Step, connected, heard_from, lost_plainly, lost_finally, announcement_set, train_data_set, tick_passed, settled, powered_off, refused, first_of, is_unknown, connect_checks, lost_checks, message_checks, message_steps, announced_by, is_national, status_steps, steps_of}
+use Rattle.steps.specs.Calls.{Call, connect, message, lost, status, announce, train_data, tick, run, power_off, Step, heard_from, tick_passed, settled, first_of, is_unknown, message_checks, message_steps, is_national, status_steps, steps_of}
 use Rattle.steps.specs.Moments.{Moment, acted, surroundings_by, ends_settling, moment_of, moments_of}
 use Rattle.steps.specs.Exchanges.{plus_counts, counts_in, added_in, rows_behind}
 use Rattle.steps.specs.declared.counts.Counts.{Counts}
@@ -43,9 +43,7 @@ sentall_drop n (e ∷ es) fs h a = sentall_drop (cond (is_off e.what) 0 n + is_f
 
 sentall_between : (n : ℕ) (es fs : List Event) → n ≤ 1 → SentAll n (es ++ fs) → NoOff es → n + failure_orders es ≤ 1
 sentall_between n [] fs h a k = omega arith
-sentall_between n (e ∷ es) fs h a k =
-    let z : cond (is_off e.what) 0 n ≡ n = ap (λ b. cond b 0 n) k.0 in
-    omega (arith, sentall_between (cond (is_off e.what) 0 n + is_failure_order e.what) es fs a.0 a.1 k.1)
+sentall_between n (e ∷ es) fs h a k = let ih = sentall_between (cond (is_off e.what) 0 n + is_failure_order e.what) es fs a.0 a.1 k.1 in grind arith
 
 pub at_most_one : (es a b c : List Event) → SentAll 0 es → es ≡ a ++ (b ++ c) → NoOff b → failure_orders b ≤ 1
 at_most_one es a b c s e k =
@@ -54,9 +52,7 @@ at_most_one es a b c s e k =
 
 sent_between : (n : ℕ) (es : List Event) → NoOff es → sent_from n es ≡ n + failure_orders es
 sent_between n [] k = omega arith
-sent_between n (e ∷ es) k =
-    let z : cond (is_off e.what) 0 n ≡ n = ap (λ b. cond b 0 n) k.0 in
-    omega (arith, sent_between (cond (is_off e.what) 0 n + is_failure_order e.what) es k.1)
+sent_between n (e ∷ es) k = let ih = sent_between (cond (is_off e.what) 0 n + is_failure_order e.what) es k.1 in grind arith
 
 pub sent_since : (es a b : List Event) → es ≡ a ++ b → NoOff b → failure_orders b ≤ sent_from 0 es
 sent_since es a b e k = omega (arith, ap (sent_from 0) e, sent_append 0 a b, sent_between (sent_from 0 a) b k)
@@ -219,9 +215,6 @@ run_valid : (ns : List ℕ) (k : ℕ) → AllValid ns (replicate k tick_passed)
 run_valid ns zero = tt
 run_valid ns (suc k) = (tt, run_valid ns k)
 
-lost_valid : (ns : List ℕ) (n : ℕ) (b : Bool) → among n ns ≡ true → AllValid ns (cond b (lost_finally n) (lost_plainly n) ∷ [])
-lost_valid ns n v2 h = grind arith
-
 message_valid : (a : Agreed) (rows : List Row) (r : Result Reading Fault) (ws : List Step) → message_steps a rows r ≡ Ok ws → AllValid a.numbers ws
 message_valid a rows (Err f) ws e = absurd (err_ok f ws e)
 message_valid a rows (Ok m) ws e =
@@ -232,18 +225,13 @@ message_valid a rows (Ok m) ws e =
 status_valid : (ns : List ℕ) (l : Option Level) (m : Option Mode) (b : Bool) (n : ℕ) (ws : List Step) → status_steps l m b n ≡ Ok ws → AllValid ns ws
 status_valid ns v1 m b n ws e = grind arith
 
-announce_valid : (ns : List ℕ) (b : Bool) (n : Option ℕ) (ws : List Step) → ◌≡◌ {A = Result (List Step) Fault} (cond b (Ok (announcement_set n ∷ [])) (Err (refused refusal.Range))) (Ok ws) → AllValid ns ws
-announce_valid ns v1 n ws e = grind arith
-
 pub steps_valid : (a : Agreed) (rows : List Row) (call : Call) (ws : List Step) → steps_of a rows call ≡ Ok ws → AllValid a.numbers ws
-steps_valid a rows (connect n) ws e = let q = known a n refusal.UnknownStm (drop 1 (connect_checks a rows n)) (connected n ∷ []) ws e in valid_to a.numbers (connected n ∷ []) ws q.1 (q.0, tt)
+steps_valid a rows (connect n) ws e = grind arith
 steps_valid a rows (message octets) ws e = message_valid a rows (read_message a.trip octets) ws e
-steps_valid a rows (lost n final) ws e =
-    let k = cond final (lost_finally n) (lost_plainly n) ∷ [] in
-    let q = known a n refusal.UnknownStm (drop 1 (lost_checks a rows n final)) k ws e in valid_to a.numbers k ws q.1 (lost_valid a.numbers n final q.0)
+steps_valid a rows (lost n final) ws e = grind arith
 steps_valid a rows (status l n m) ws e = status_valid a.numbers (case_of level_number levels l) (case_of mode_number modes m) (is_national l n) n ws e
-steps_valid a rows (announce n) ws e = announce_valid a.numbers (leb n 254) (announced_by n) ws e
-steps_valid a rows (train_data b) ws e = valid_to a.numbers (train_data_set b ∷ []) ws (same_ok (train_data_set b ∷ []) ws e) (tt, tt)
-steps_valid a rows tick ws e = valid_to a.numbers (tick_passed ∷ []) ws (same_ok (tick_passed ∷ []) ws e) (tt, tt)
+steps_valid a rows (announce n) ws e = grind arith
+steps_valid a rows (train_data b) ws e = grind arith
+steps_valid a rows tick ws e = grind arith
 steps_valid a rows (run k) ws e = valid_to a.numbers (replicate k tick_passed) ws (same_ok (replicate k tick_passed) ws e) (run_valid a.numbers k)
-steps_valid a rows power_off ws e = valid_to a.numbers (powered_off ∷ []) ws (same_ok (powered_off ∷ []) ws e) (tt, tt)
+steps_valid a rows power_off ws e = grind arith

@@ -3,7 +3,6 @@ use Rattle.std.proofs.Common.{◌≡◌, ℕ, zero, suc, ◌+◌, ◌-◌, ◌<�
 use Rattle.std.specs.List.{AllByRecursion}
 use Rattle.std.proofs.ByRecursion.{All-append}
 use Rattle.std.proofs.lemmas.List.{length-replicate, get_or-replicate}
-use Rattle.std.proofs.lemmas.List.Sums.{sum_by-cons}
 use Rattle.vocabulary.specs.Rules.{wrong_number}
 use Rattle.vocabulary.specs.Settings.{Agreed}
 use Rattle.vocabulary.specs.declared.fault.Fault.{Fault}
@@ -186,7 +185,7 @@ some_order : (o p : Order) → Some o ≡ Some p → o ≡ p
 some_order o p e = grind arith
 
 shown_waits : (es : List Event) (g : Option OpenOrder) (o : Order) → opens g ≡ open_order es → order_in g ≡ Some o → (w : Open) × Waits w es × (w.order ≡ o)
-shown_waits es None o e q = let z : ◌≡◌ {A = ℕ} 0 1 = cc in absurd (let y : ⊥ = omega arith in y)
+shown_waits es None o e q = grind arith
 shown_waits es (Some v) o e q = (record { order = v.order; ticks = v.age }, (waits es (record { order = v.order; ticks = v.age })).0 (sym e), some_order v.order o q)
 
 open_order_lem : (w v : Open) → Some w ≡ Some v → w.order ≡ v.order
@@ -203,7 +202,7 @@ bit_true v0 h = grind arith
 -- a new control
 few_fresh : (t : State) (n : ℕ) → here t fresh_row ≡ 0 → sum_by (here t) (replicate n fresh_row) ≡ 0
 few_fresh t zero e = refl
-few_fresh t (suc n) e = sum_by-cons (here t) fresh_row (replicate n fresh_row) ∙ omega (arith, few_fresh t n e)
+few_fresh t (suc n) e = let ih = few_fresh t n e in grind arith
 
 fresh_tracks : (n : ℕ) (lim : Order → ℕ) → Tracks n lim (replicate n fresh_row) (λ i. [])
 fresh_tracks n lim =
