@@ -1,45 +1,45 @@
 // What a book sees of one STM.
 ghost use Rattle.std.specs.Prelude.{◌≡◌, Some};
 ghost use Rattle.std.specs.Fmt.{padded};
-ghost use Rattle.vocabulary.specs.Numbers.{case_of, Names};
+ghost use Rattle.vocabulary.specs.Numbers.{Numbered};
 ghost use Rattle.book.specs.Views.{want_number, want_name, wants, level_seen};
 
 use std::fmt;
 use vocabulary::level::Level;
 use vocabulary::mode::Mode;
+use vocabulary::numbers::UnknownNumber;
 use vocabulary::order::Order;
 use vocabulary::state::State;
 
 // A state that an STM has asked for and has not been ordered to yet. No other is ever kept.
 #[derive(Clone, Copy, PartialEq, Eq, Debug)]
 pub enum Want {
-    Configuration,
-    DataEntry,
-    ColdStandby,
+    Configuration = 2,
+    DataEntry = 3,
+    ColdStandby = 4,
 }
 
-impl Want {
-    // The number that the request bore.
-    pub fn number(self) -> u8
-        ensures { result ≡ want_number self }
-    {
-        match self {
-            Want::Configuration => 2,
-            Want::DataEntry => 3,
-            Want::ColdStandby => 4,
-        }
-    }
+// The number that the request bore.
+impl From<Want> for u8 {
+    ghost from_gives = { λ want number. number ≡ want_number want };
 
-    // The want with this number, if there is one.
-    pub fn from_number(number: u8) -> Option<Want>
-        ensures value { result ≡ case_of want_number wants number }
-        ensures names { Names want_number number result }
-    {
+    fn from(want: Want) -> u8 {
+        want as u8
+    }
+}
+
+// The want with a number, if there is one.
+impl TryFrom<u8> for Want {
+    type Error = UnknownNumber;
+
+    ghost try_from_gives = { Numbered want_number wants };
+
+    fn try_from(number: u8) -> Result<Want, UnknownNumber> {
         match number {
-            2 => Some(Want::Configuration),
-            3 => Some(Want::DataEntry),
-            4 => Some(Want::ColdStandby),
-            _ => None,
+            2 => Ok(Want::Configuration),
+            3 => Ok(Want::DataEntry),
+            4 => Ok(Want::ColdStandby),
+            _ => Err(UnknownNumber),
         }
     }
 }
@@ -88,7 +88,7 @@ impl LevelSeen {
 
 // The state of affairs of one STM. An STM is at HS or at DA if it holds that state or is on its way
 // there by an order.
-#[derive(Clone, Copy, PartialEq, Eq)]
+#[derive(Clone, Copy, PartialEq, Eq, Debug)]
 pub struct View {
     // The state that the STM holds.
     pub held: State,

@@ -23,13 +23,14 @@ pub struct NotWrapped<B> {
 }
 
 impl<B> Withholding<B> {
-    // This book without the order that has this number.
+    // This book without the order that has this number. Either answer takes the inner book, which no pair
+    // of closures could share.
     pub fn new(inner: B, number: u8) -> Result<Withholding<B>, NotWrapped<B>>
         ensures { result ≡ wrapped inner number }
     {
-        match Order::from_number(number) {
-            Some(order) => Ok(Withholding { inner, order }),
-            None => Err(NotWrapped {
+        match Order::try_from(number) {
+            Ok(order) => Ok(Withholding { inner, order }),
+            Err(_) => Err(NotWrapped {
                 inner,
                 fault: Fault::new(Refusal::Range, 0, Layer::Control),
             }),
