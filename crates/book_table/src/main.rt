@@ -7,7 +7,7 @@ use book::bare::Bare;
 use book::standard::Standard;
 use book::view::{LevelSeen, View, Want};
 use book::withholding::Withholding;
-use std::io;
+use std::{fmt, io};
 use vocabulary::mode::Mode;
 use vocabulary::order::Order;
 use vocabulary::state::State;
@@ -39,6 +39,16 @@ const ORDERS: [Order; 6] = [
     Order::ToDataAvailable,
 ];
 
+const OPEN_ORDERS: [Option<Order>; 7] = [
+    None,
+    Some(Order::ToConfiguration),
+    Some(Order::ToDataEntry),
+    Some(Order::ToColdStandby),
+    Some(Order::ToColdStandbyConditionally),
+    Some(Order::ToHotStandby),
+    Some(Order::ToDataAvailable),
+];
+
 const LEVELS: [LevelSeen; 3] = [LevelSeen::Own, LevelSeen::Anothers, LevelSeen::NotNtc];
 
 const MODES: [Mode; 16] = [
@@ -60,40 +70,7 @@ const MODES: [Mode; 16] = [
     Mode::PassiveShunting,
 ];
 
-// 8 states, 4 wants, 7 open orders, 3 levels, 16 modes and 4 facts that hold or not.
-const VIEWS: u32 = 8 * 4 * 7 * 3 * 16 * 16;
-
-// The books of the table: the last withholds one order of a book that withholds another.
-#[derive(Drop)]
-struct Shelf {
-    standard: Standard,
-    bare: Bare,
-    without_hs: Withholding<Standard>,
-    without_two: Withholding<Withholding<Standard>>,
-}
-
-// No open order, or one of the six.
-fn open_at(n: usize) -> Option<Order> {
-    match n {
-        0 => None,
-        _ => ORDERS.get(n - 1).copied(),
-    }
-}
-
-// The n-th view.
-fn view_at(n: u32) -> View {
-    View {
-        other_at_da: n % 2 == 1,
-        other_at_hs: n / 2 % 2 == 1,
-        announced: n / 4 % 2 == 1,
-        mode: MODES[(n / 8 % 16) as usize],
-        level: LEVELS[(n / 128 % 3) as usize],
-        train_data: n / 384 % 2 == 1,
-        open: open_at((n / 768 % 7) as usize),
-        want: WANTS[(n / 5376 % 4) as usize],
-        held: STATES[(n / 21504 % 8) as usize],
-    }
-}
+const FACTS: [bool; 2] = [false, true];
 
 // One mode for all that make no difference.
 fn mode_for(mode: Mode) -> Mode {
@@ -104,12 +81,12 @@ fn mode_for(mode: Mode) -> Mode {
     }
 }
 
-// The held state and the open order of a view, and all else at rest.
-fn resting(view: View) -> View {
+// A held state and an open order, and all else at rest.
+fn resting(held: State, open: Option<Order>) -> View {
     View {
-        held: view.held,
+        held,
         want: None,
-        open: view.open,
+        open,
         train_data: false,
         level: LevelSeen::Own,
         mode: Mode::FullSupervision,
@@ -121,7 +98,7 @@ fn resting(view: View) -> View {
 
 // The view that stands for this one: what makes no difference in the held state is as at rest.
 fn stand_in(view: View) -> View {
-    let at_rest = resting(view);
+    let at_rest = resting(view.held, view.open);
     match view.held {
         State::NoPower | State::Failure => at_rest,
         State::PowerOn | State::DataEntry => View {
@@ -156,59 +133,16 @@ fn stand_in(view: View) -> View {
     }
 }
 
-// An answer's number, 0 for none.
-fn number_of(answer: Option<Order>) -> u8 {
-    match answer {
-        Some(order) => order.number(),
-        None => 0,
-    }
+// Whether every book answers two views alike.
+fn alike(books: &[&dyn Book], one: View, other: View) -> bool {
+    books
+        .iter()
+        .all(|book| book.consult(one) == book.consult(other))
 }
 
-// Whether a book answers two views alike.
-fn alike<B: Book>(book: &B, one: View, other: View) -> bool {
-    number_of(book.consult(one)) == number_of(book.consult(other))
-}
-
-// Whether a book answers this view with an order.
-fn answers<B: Book>(book: &B, view: View) -> bool {
-    book.consult(view).is_some()
-}
-
-impl Shelf {
-    // Whether every book answers two views alike.
-    fn alike(&self, one: View, other: View) -> bool {
-        alike(&self.standard, one, other)
-            && alike(&self.bare, one, other)
-            && alike(&self.without_hs, one, other)
-            && alike(&self.without_two, one, other)
-    }
-
-    // Whether some book answers this view with an order.
-    fn answers(&self, view: View) -> bool {
-        answers(&self.standard, view) || answers(&self.bare, view)
-    }
-}
-
-fn state_name(state: State) -> &'static str {
-    match state {
-        State::NoPower => "NP",
-        State::PowerOn => "PO",
-        State::Configuration => "CO",
-        State::DataEntry => "DE",
-        State::ColdStandby => "CS",
-        State::HotStandby => "HS",
-        State::DataAvailable => "DA",
-        State::Failure => "FA",
-    }
-}
-
-fn want_name(want: Option<Want>) -> &'static str {
-    match want {
-        None => "-",
-        Some(Want::Configuration) => "CO",
-        Some(Want::DataEntry) => "DE",
-        Some(Want::ColdStandby) => "CS",
-    }
+// Whether some book answers this view with an order.
+fn answers(books: &[&dyn Book], view: View) -> bool {
+    books.iter().any(|book| book.consult(view).is_some())
 }
 
 fn level_name(level: LevelSeen) -> &'static str {
@@ -231,9 +165,22 @@ fn mark(fact: bool) -> &'static str {
     if fact { "x" } else { "." }
 }
 
+// A value, or a text in its place where there is none.
+#[derive(Drop)]
+struct Or<T>(Option<T>, &'static str);
+
+impl<T: fmt::Display> fmt::Display for Or<T> {
+    fn fmt<W: fmt::Write>(&self, f: &mut fmt::Formatter<W>) -> fmt::Result {
+        match &self.0 {
+            Some(value) => value.fmt(f),
+            None => f.pad(self.1),
+        }
+    }
+}
+
 // A fact, or a blank where it makes no difference.
-fn shown(matters: bool, fact: &'static str) -> &'static str {
-    if matters { fact } else { "" }
+fn shown<T: Drop>(matters: bool, fact: T) -> Or<T> {
+    Or(matters.then_some(fact), "")
 }
 
 // The facts of a view that make a difference in its held state.
@@ -246,79 +193,136 @@ fn print_facts(rt: &HostRuntime, view: View) -> io::Result<()> {
     );
     let in_cs = matches!(held, State::ColdStandby);
     let in_standby = matches!(held, State::ColdStandby | State::HotStandby);
-    let want = shown(before_standby, want_name(view.want));
+    let want = shown(before_standby, Or(view.want, "-"));
     let data = shown(in_co, mark(view.train_data));
     let level = shown(!before_standby, level_name(view.level));
     let mode = shown(!before_standby, mode_name(view.mode));
     let announced = shown(in_standby, mark(view.announced));
     let hs = shown(in_cs, mark(view.other_at_hs));
     let da = shown(in_standby, mark(view.other_at_da));
-    print!(rt;
-        "{:<4} {want:<4} {data:<4} {level:<7} {mode:<8} {announced:<4} {hs:<2} {da:<2} ",
-        state_name(held)
-    )
+    print!(rt; "{held}   {want:<4} {data:<4} {level:<7} {mode:<8} {announced:<4} {hs:<2} {da:<2} ")
 }
 
 // A book's answer where no order is open, then the open orders over which it is answered too.
-fn print_answer<B: Book>(rt: &HostRuntime, book: &B, view: View) -> io::Result<()> {
+fn print_answer(rt: &HostRuntime, book: &dyn Book, view: View) -> io::Result<()> {
     let Some(order) = book.consult(view) else {
         return print!(rt; "| -        ");
     };
-    print!(rt; "| {} ", order.number())?;
+    print!(rt; "| {} ", u8::from(order))?;
     for before in ORDERS {
         let over = View {
             open: Some(before),
             ..view
         };
-        if answers(book, over) {
-            print!(rt; "{}", before.number())?;
-        } else {
-            print!(rt; ".")?;
+        match book.consult(over) {
+            Some(_) => print!(rt; "{}", u8::from(before))?,
+            None => print!(rt; ".")?,
         }
     }
     print!(rt; " ")
 }
 
 // The line of a view.
-fn print_line(rt: &HostRuntime, shelf: &Shelf, view: View) -> io::Result<()> {
+fn print_line(rt: &HostRuntime, books: &[&dyn Book], view: View) -> io::Result<()> {
     print_facts(rt, view)?;
-    print_answer(rt, &shelf.standard, view)?;
-    print_answer(rt, &shelf.bare, view)?;
-    print_answer(rt, &shelf.without_hs, view)?;
-    print_answer(rt, &shelf.without_two, view)?;
-    match shelf.standard.reason(view) {
-        Some(condition) => println!(rt; "| {}", condition.name()),
+    for book in books {
+        print_answer(rt, *book, view)?;
+    }
+    match Standard.reason(view) {
+        Some(condition) => println!(rt; "| {condition}"),
         None => println!(rt; "|"),
     }
 }
 
-// Goes through every view: prints the line of each that stands for itself, has no open order and is
-// answered, and counts the views, and those that are answered otherwise than their stand-ins.
-fn print_table(rt: &HostRuntime, shelf: &Shelf) -> io::Result<()> {
-    let mut answered = 0u32;
-    let mut unlike = 0u32;
-    let mut lines = 0u32;
-    for n in 0..VIEWS {
-        let view = view_at(n);
+// How many views there are, how many of them are answered, how many otherwise than their stand-ins,
+// and how many lines were printed.
+#[derive(Default, Drop)]
+struct Counts {
+    views: u32,
+    answered: u32,
+    unlike: u32,
+    lines: u32,
+}
+
+impl Counts {
+    // Counts a view, and prints its line if it stands for itself, has no open order and is answered.
+    fn see(&mut self, rt: &HostRuntime, books: &[&dyn Book], view: View) -> io::Result<()> {
         let other = stand_in(view);
-        if !shelf.alike(view, other) {
-            unlike = unlike.wrapping_add(1);
+        self.views = self.views.saturating_add(1);
+        if !alike(books, view, other) {
+            self.unlike = self.unlike.saturating_add(1);
         }
-        if shelf.answers(view) {
-            answered = answered.wrapping_add(1);
+        if answers(books, view) {
+            self.answered = self.answered.saturating_add(1);
             if view == other && view.open.is_none() {
-                lines = lines.wrapping_add(1);
-                print_line(rt, shelf, view)?;
+                self.lines = self.lines.saturating_add(1);
+                print_line(rt, books, view)?;
             }
         }
+        Ok(())
     }
+
+    // Goes through the levels, the modes and what is known of the other STMs, with this view's other parts.
+    fn see_levels(&mut self, rt: &HostRuntime, books: &[&dyn Book], view: View) -> io::Result<()> {
+        for level in LEVELS {
+            for mode in MODES {
+                for announced in FACTS {
+                    for other_at_hs in FACTS {
+                        for other_at_da in FACTS {
+                            let view = View {
+                                level,
+                                mode,
+                                announced,
+                                other_at_hs,
+                                other_at_da,
+                                ..view
+                            };
+                            self.see(rt, books, view)?;
+                        }
+                    }
+                }
+            }
+        }
+        Ok(())
+    }
+
+    // Goes through every view in this held state.
+    fn see_state(&mut self, rt: &HostRuntime, books: &[&dyn Book], held: State) -> io::Result<()> {
+        for want in WANTS {
+            for open in OPEN_ORDERS {
+                for train_data in FACTS {
+                    let view = View {
+                        want,
+                        train_data,
+                        ..resting(held, open)
+                    };
+                    self.see_levels(rt, books, view)?;
+                }
+            }
+        }
+        Ok(())
+    }
+}
+
+// Goes through every view, and says what was counted.
+fn print_table(rt: &HostRuntime, books: &[&dyn Book]) -> io::Result<()> {
+    let mut counts = Counts::default();
+    for held in STATES {
+        counts.see_state(rt, books, held)?;
+    }
+    let Counts {
+        views,
+        answered,
+        unlike,
+        lines,
+    } = counts;
     println!(rt)?;
-    println!(rt; "{VIEWS} views, {answered} of them answered by some book, {lines} lines.")?;
+    println!(rt; "{views} views, {answered} of them answered by some book, {lines} lines.")?;
     println!(rt; "{unlike} views are answered otherwise than the view that stands for them.")
 }
 
 // The limits of a book, in ticks.
-fn print_limits<B: Book>(rt: &HostRuntime, name: &str, book: &B) -> io::Result<()> {
+fn print_limits(rt: &HostRuntime, name: &str, book: &dyn Book) -> io::Result<()> {
     print!(rt; "{name:<13}")?;
     for order in ORDERS {
         print!(rt; "{:>5}", book.limit(order))?;
@@ -343,13 +347,10 @@ fn print_header(rt: &HostRuntime) -> io::Result<()> {
     )
 }
 
-// The limits of each book.
-fn print_all_limits(rt: &HostRuntime, shelf: &Shelf) -> io::Result<()> {
+// What stands above the limits.
+fn print_limits_header(rt: &HostRuntime) -> io::Result<()> {
     println!(rt)?;
-    println!(rt; "limits of        2    3    4    5    6    7")?;
-    print_limits(rt, "standard", &shelf.standard)?;
-    print_limits(rt, "bare", &shelf.bare)?;
-    print_limits(rt, "less 6 5", &shelf.without_two)
+    println!(rt; "limits of        2    3    4    5    6    7")
 }
 
 // Which numbers are no order that can be withheld.
@@ -364,7 +365,7 @@ fn print_refusals(rt: &HostRuntime) -> io::Result<()> {
                     "withholding {number}: refused by {}, place {}, layer {}",
                     fault.number(),
                     fault.place,
-                    fault.layer.name()
+                    fault.layer
                 )?
             }
         }
@@ -382,14 +383,12 @@ fn main(rt: HostRuntime) -> io::Result<()> {
     let Ok(without_two) = Withholding::new(inner, 5) else {
         return println!(rt; "5 is no order");
     };
-    let shelf = Shelf {
-        standard: Standard,
-        bare: Bare,
-        without_hs,
-        without_two,
-    };
+    let books: [&dyn Book; 4] = [&Standard, &Bare, &without_hs, &without_two];
     print_header(&rt)?;
-    print_table(&rt, &shelf)?;
-    print_all_limits(&rt, &shelf)?;
+    print_table(&rt, &books)?;
+    print_limits_header(&rt)?;
+    print_limits(&rt, "standard", &Standard)?;
+    print_limits(&rt, "bare", &Bare)?;
+    print_limits(&rt, "less 6 5", &without_two)?;
     print_refusals(&rt)
 }
