@@ -9,18 +9,11 @@ ghost use Rattle.laws.specs.Lawful.{EveryRunLawful};
 use book::Book;
 use vocabulary::settings::Settings;
 
-// How many units there are.
-fn units(settings: &Settings) -> usize
-    ensures { result ≡ length (agreed settings.now).numbers }
-{
-    settings.numbers().len()
-}
-
 // Every run of a new control over these settings and this book is lawful. The answer is how many units
 // the laws speak of.
 pub fn laws_stand<B: Book>(settings: &Settings, book: &B) -> usize
     ensures lawful { EveryRunLawful (setup B.answer B.limit (agreed settings.now) book.now) }
     ensures count { result ≡ length (agreed settings.now).numbers }
 {
-    units(settings)
+    settings.numbers().len()
 }

@@ -2,7 +2,7 @@
 
 // Orders that the carrier took in a call, and orders that were closed in it, by what closed them. The
 // Failure order is in none of them.
-#[derive(Clone, Copy)]
+#[derive(Clone, Copy, PartialEq, Eq, Debug)]
 pub struct Counts {
     pub taken: u32,
     // Closed by a report of their target.

@@ -6,7 +6,7 @@ use vocabulary::order::Order;
 use vocabulary::state::State;
 
 // An order that has not been answered yet.
-#[derive(Clone, Copy)]
+#[derive(Clone, Copy, PartialEq, Eq, Debug)]
 pub struct OpenOrder {
     pub order: Order,
     // How many ticks old it is; a trip notice to the conditional order begins them anew.
@@ -16,7 +16,7 @@ pub struct OpenOrder {
 }
 
 // What the control keeps of one unit.
-#[derive(Clone, Copy)]
+#[derive(Clone, Copy, PartialEq, Eq, Debug)]
 pub struct Row {
     // The state in which the control takes the unit to be.
     pub held: State,

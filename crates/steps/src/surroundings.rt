@@ -3,7 +3,7 @@ use vocabulary::level::Level;
 use vocabulary::mode::Mode;
 
 // What the control keeps besides the rows.
-#[derive(Clone, Copy)]
+#[derive(Clone, Copy, PartialEq, Eq, Debug)]
 pub struct Surroundings {
     pub level: Level,
     pub mode: Mode,
