@@ -41,52 +41,25 @@ Valid ns (connected n) = among n ns ≡ true
 Valid ns (heard_from n p) = among n ns ≡ true
 Valid ns (lost_plainly n) = among n ns ≡ true
 Valid ns (lost_finally n) = among n ns ≡ true
-Valid ns (status_set l n m) = Unit {0}
-Valid ns (announcement_set n) = Unit {0}
-Valid ns (train_data_set b) = Unit {0}
-Valid ns tick_passed = Unit {0}
-Valid ns settled = Unit {0}
-Valid ns powered_off = Unit {0}
+Valid ns w = Unit {0}
 
 -- what a step closes in the row at a place
 abbrev pub ans_at : Setup → Step → List Row → ℕ → ℕ
-ans_at c (connected n) rows i = 0
 ans_at c (heard_from n p) rows i = cond (eqb n (number_at c.settings i)) (answered_in p (row_of c.settings rows n)) 0
-ans_at c (lost_plainly n) rows i = 0
-ans_at c (lost_finally n) rows i = 0
-ans_at c (status_set l n m) rows i = 0
-ans_at c (announcement_set n) rows i = 0
-ans_at c (train_data_set b) rows i = 0
-ans_at c tick_passed rows i = 0
-ans_at c settled rows i = 0
-ans_at c powered_off rows i = 0
+ans_at c w rows i = 0
 
 abbrev pub lost_at : Setup → Step → List Row → ℕ → ℕ
-lost_at c (connected n) rows i = 0
 lost_at c (heard_from n p) rows i = cond (eqb n (number_at c.settings i)) (lost_in c.settings.versions p (row_of c.settings rows n)) 0
-lost_at c (lost_plainly n) rows i = 0
 lost_at c (lost_finally n) rows i = cond (eqb n (number_at c.settings i)) (lost_by (row_of c.settings rows n)) 0
-lost_at c (status_set l n m) rows i = 0
-lost_at c (announcement_set n) rows i = 0
-lost_at c (train_data_set b) rows i = 0
 lost_at c tick_passed rows i = lost_by_tick c.limits (row_at i rows)
-lost_at c settled rows i = 0
-lost_at c powered_off rows i = 0
+lost_at c w rows i = 0
 
 abbrev opened : Row → ℕ
 opened r = open_count r.open
 
 abbrev pub void_at : Step → List Row → ℕ → ℕ
-void_at (connected n) rows i = 0
-void_at (heard_from n p) rows i = 0
-void_at (lost_plainly n) rows i = 0
-void_at (lost_finally n) rows i = 0
-void_at (status_set l n m) rows i = 0
-void_at (announcement_set n) rows i = 0
-void_at (train_data_set b) rows i = 0
-void_at tick_passed rows i = 0
-void_at settled rows i = 0
 void_at powered_off rows i = opened (row_at i rows)
+void_at w rows i = 0
 
 acted_length : (c : Setup) (s : Surroundings) (w : Step) (rows : List Row) → length (acted c s w rows) ≡ length rows
 acted_length c s (connected n) rows = length-set rows _ _

@@ -10,16 +10,9 @@ abbrev open' : Order → ℕ → Open
 open' o k = record { order = o; ticks = k }
 
 abbrev step : Happening → Order → ℕ → ℕ
-step (took q) o k = k
-step took_failure o k = k
-step (reported t) o k = k
 step noticed o k = cond (is_conditional o) 0 k
 step ticked o k = k + 1
-step off o k = k
-step (asked y) o k = k
-step (greeted y) o k = k
-step parted o k = k
-step elsewhere o k = k
+step w o k = k
 
 abbrev steps : Order → ℕ → List Event → ℕ
 steps o k [] = k
