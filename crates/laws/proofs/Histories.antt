@@ -31,7 +31,8 @@ use Rattle.laws.proofs.Lists.{Timely, open_append, along_append, timely_append, 
 use Rattle.laws.proofs.Rows.{bit, opens, Sound}
 use Rattle.laws.proofs.Whys.{Why}
 use Rattle.laws.proofs.Places.{Distinct}
-use Rattle.laws.proofs.Settles.{by_cond, puts_append, settle_places}
+use Rattle.std.proofs.lemmas.Bool.{cond_both}
+use Rattle.laws.proofs.Settles.{puts_append, settle_places}
 use Rattle.laws.proofs.Puts.{sent_from, SentAll, sent_append, sentall_append}
 use Rattle.laws.proofs.Moments.{Valid, Good}
 use Rattle.laws.proofs.Moments
@@ -184,7 +185,7 @@ module _ (c : Setup) (good : Good c) (dist : Distinct c.settings.numbers) where
 
 -- no more frames than places
 moment_places : (c : Setup) (s : Surroundings) (w : Step) (rows : List Row) (free : ℕ) → length (moment_of c s w rows free).added ≤ free
-moment_places c s w rows free = by_cond (λ (t : Settled). length t.added ≤ free) (ends_settling w) (settle c (surroundings_by w s) [] (acted c s w rows) free) (ended (acted c s w rows))
+moment_places c s w rows free = cond_both (ends_settling w) (settle c (surroundings_by w s) [] (acted c s w rows) free) (ended (acted c s w rows)) (λ (t : Settled). length t.added ≤ free)
     (λ _. settle_places c (surroundings_by w s) [] (acted c s w rows) free) (λ _. omega arith)
 
 pub moments_places : (c : Setup) (s : Surroundings) (ws : List Step) (rows : List Row) (free : ℕ) → length (added_in (moments_of c s ws rows free)) ≤ free

@@ -32,7 +32,8 @@ use Rattle.laws.proofs.Lists.{total_same, total_none, total_list, total_le, tota
 use Rattle.laws.proofs.Rows.{opens, Sound, Kept, Top, kept_elsewhere, kept_heard, kept_ticked, kept_parted, kept_relinked, kept_marked, kept_off}
 use Rattle.laws.proofs.Whys.{Why, why_heard, why_parted, why_ticked, why_off}
 use Rattle.laws.proofs.Places.{Distinct, same_num, apart, placed, same_place}
-use Rattle.laws.proofs.Settles.{by_cond, events_of, Puts, nothing, settle_puts, each_at, each_length, fit_at, read_at, put_each, for_units_lem, takes_each, follows_each}
+use Rattle.std.proofs.lemmas.Bool.{cond_both}
+use Rattle.laws.proofs.Settles.{events_of, Puts, nothing, settle_puts, each_at, each_length, fit_at, read_at, put_each, for_units_lem, takes_each, follows_each}
 use Rattle.laws.proofs.Puts.{Both, both, ev, took_held, fell_took, here, settle_few}
 
 -- a step of a unit of the settings
@@ -190,7 +191,7 @@ pub record Good (c : Setup) : Type 0 where
 
 module _ (c : Setup) (good : Good c) (dist : Distinct c.settings.numbers) (w : Step) (s : Surroundings) (rows : List Row) (free : ℕ) (fit : length rows ≡ length c.settings.numbers) (v : Valid c.settings.numbers w) (sound : (i : ℕ) → i < length rows → Sound c.limits (row_at i rows)) where
   pub puts_of : Puts c.settings (surroundings_by w s) 0 (acted c s w rows) (settled_by c s w rows free)
-  puts_of = by_cond (λ t. Puts c.settings (surroundings_by w s) 0 (acted c s w rows) t) (ends_settling w) (settle c (surroundings_by w s) [] (acted c s w rows) free) (ended (acted c s w rows))
+  puts_of = cond_both (ends_settling w) (settle c (surroundings_by w s) [] (acted c s w rows) free) (ended (acted c s w rows)) (λ t. Puts c.settings (surroundings_by w s) 0 (acted c s w rows) t)
       (λ _. settle_puts c (surroundings_by w s) [] (acted c s w rows) free 0 refl) (λ _. nothing c (surroundings_by w s) 0 (acted c s w rows))
 
   abbrev pub mid : ℕ → Row
@@ -263,7 +264,7 @@ module _ (c : Setup) (good : Good c) (dist : Distinct c.settings.numbers) (w : S
       sum_by (here t) rows ≤ 1 → sum_by (here t) (moment_of c s w rows free).rows ≤ 1
   few t top ok h =
       let k = act_few t top in
-      by_cond (λ (z : Settled). sum_by (here t) z.rows ≤ 1) (ends_settling w) (settle c (surroundings_by w s) [] (acted c s w rows) free) (ended (acted c s w rows))
+      cond_both (ends_settling w) (settle c (surroundings_by w s) [] (acted c s w rows) free) (ended (acted c s w rows)) (λ (z : Settled). sum_by (here t) z.rows ≤ 1)
       (λ _. let z = settle_few t c (surroundings_by w s) ok [] (acted c s w rows) free (omega arith) in omega arith) (λ _. omega arith)
 
   only_da : (n : ℕ) (pre : List Row) (r : Row) (rest : List Row) (o : Order) → c.answers (view_of (surroundings_by w s) n pre r rest) ≡ Some o → same_state (target_of o) DataAvailable ≡ true → (some_at DataAvailable pre || some_at DataAvailable rest) ≡ false

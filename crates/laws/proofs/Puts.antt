@@ -20,7 +20,8 @@ use Rattle.laws.proofs.Lists.{Timely, open_append, along_append, timely_append}
 use Rattle.laws.proofs.Rows.{bit, bit_one, opens, Sound, Kept}
 use Rattle.laws.proofs.Places.{or_l, or_r}
 use Rattle.laws.proofs.Frames.{put_events}
-use Rattle.laws.proofs.Settles.{by_cond, events_of, Fit, Fits}
+use Rattle.std.proofs.lemmas.Bool.{cond_both}
+use Rattle.laws.proofs.Settles.{events_of, Fit, Fits}
 
 -- Failure orders since the latest power-off
 abbrev pub sent_from : ℕ → List Event → ℕ
@@ -192,6 +193,6 @@ module _ (t : State) where
         let g = walk pre r rest w can all in
         let g2 = walk pre r rest (take free w) (free_take pre rest free w can) all in
         let push = sum_by_push here pre (took_all w r) in
-        by_cond (λ (x : Settled). sum_by here pre + sum_by here x.rows ≤ 1) (ltb free (length w)) (settled_row c s (length pre) (take free w) r (ended rest)) (settled_row c s (length pre) w r (settle c s after rest left))
+        cond_both (ltb free (length w)) (settled_row c s (length pre) (take free w) r (ended rest)) (settled_row c s (length pre) w r (settle c s after rest left)) (λ (x : Settled). sum_by here pre + sum_by here x.rows ≤ 1)
         (λ _. omega (arith, sum_by-cons here (took_all (take free w) r) rest))
         (λ _. let ih = settle_few after rest left (omega arith) in omega (arith, sum_by-cons here (took_all w r) (settle c s after rest left).rows))

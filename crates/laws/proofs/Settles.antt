@@ -1,5 +1,7 @@
 -- The settling, as the list of what each row put.
 use Rattle.std.proofs.Common.{◌≡◌, ℕ, zero, suc, ◌+◌, ◌-◌, ◌<◌, ◌≤◌, Bool, true, false, cond, eqb, ltb, List, [], ◌∷◌, ◌++◌, length, get_or, take, Option, sym, refl, ap, ◌∙◌, append_assoc, append-nil, arith, length-append, length-take-le}
+use Rattle.std.proofs.lemmas.Bool.{cond_both}
+use Rattle.std.proofs.lemmas.Bool.Decides.{nat_tests}
 use Rattle.std.proofs.lemmas.List.{length_push}
 use Rattle.std.proofs.ByRecursion.{All-append}
 use Rattle.std.specs.List.{AllByRecursion}
@@ -19,9 +21,6 @@ use Rattle.laws.specs.Events.{Event, orders_for, orders_in, orders_put}
 use Rattle.laws.specs.Lawful.{ForUnit}
 use Rattle.laws.proofs.Places.{Distinct, eq_yes, eq_no, among_at}
 use Rattle.laws.proofs.Frames.{put_events, read_put, read_orders, read_count}
-
-pub by_cond : {A : Type 0} (P : A → Type 0) (b : Bool) (x y : A) → (b ≡ true → P x) → (b ≡ false → P y) → P (cond b x y)
-by_cond v0 v1 x y p q = grind arith
 
 abbrev pub events_of : List Put → List Event
 events_of [] = []
@@ -102,7 +101,7 @@ settle_puts c s pre (r ∷ rest) free k e =
     let after = pre ++ (took_all w r ∷ []) in
     let left = free - length w in
     let h = settle_puts c s after rest left (suc k) (omega (arith, length_push pre (took_all w r))) in
-    by_cond (λ t. Puts c.settings s k (r ∷ rest) t) (ltb free (length w)) (settled_row c s (length pre) (take free w) r (ended rest)) (settled_row c s (length pre) w r (settle c s after rest left))
+    cond_both (ltb free (length w)) (settled_row c s (length pre) (take free w) r (ended rest)) (settled_row c s (length pre) w r (settle c s after rest left)) (λ t. Puts c.settings s k (r ∷ rest) t)
     (λ _. puts_cons c s k (length pre) (take free w) r rest (ended rest) (sym e) (fits_take free w r fit) (nothing c s (suc k) rest))
     (λ _. puts_cons c s k (length pre) w r rest (settle c s after rest left) (sym e) fit h)
 
@@ -110,12 +109,6 @@ settle_puts c s pre (r ∷ rest) free k e =
 frames_length : (a : Agreed) (s : Surroundings) (n : ℕ) (qs : List Put) → length (frames_of a s n qs) ≡ length qs
 frames_length a s n [] = refl
 frames_length a s n (q ∷ qs) = ap suc (frames_length a s n qs)
-
-short : (x y : ℕ) → ltb x y ≡ true → x ≤ y
-short x y e = grind arith
-
-long_enough : (x y : ℕ) → ltb x y ≡ false → y ≤ x
-long_enough x y e = grind arith
 
 pub settle_places : (c : Setup) (s : Surroundings) (pre rest : List Row) (free : ℕ) → length (settle c s pre rest free).added ≤ free
 settle_places c s pre [] free = omega arith
@@ -126,9 +119,9 @@ settle_places c s pre (r ∷ rest) free =
     let left = free - length w in
     let t = settle c s after rest left in
     let ih = settle_places c s after rest left in
-    by_cond (λ (z : Settled). length z.added ≤ free) (ltb free (length w)) (settled_row c s (length pre) (take free w) r (ended rest)) (settled_row c s (length pre) w r t)
-    (λ e. omega (arith, length-append (frames_of c.settings s n (take free w)) [], frames_length c.settings s n (take free w), length-take-le free w (short free (length w) e)))
-    (λ e. omega (arith, length-append (frames_of c.settings s n w) t.added, frames_length c.settings s n w, long_enough free (length w) e))
+    cond_both (ltb free (length w)) (settled_row c s (length pre) (take free w) r (ended rest)) (settled_row c s (length pre) w r t) (λ (z : Settled). length z.added ≤ free)
+    (λ e. omega (arith, length-append (frames_of c.settings s n (take free w)) [], frames_length c.settings s n (take free w), length-take-le free w (grind arith)))
+    (λ e. omega (arith, length-append (frames_of c.settings s n w) t.added, frames_length c.settings s n w, (let le : length w ≤ free = grind arith in le)))
 
 -- by place
 pub each_at : (ps : List (List Put)) (rs : List Row) (i : ℕ) → length ps ≡ length rs → get_or (took_each ps rs) i fresh_row ≡ took_all (get_or ps i []) (get_or rs i fresh_row)
@@ -161,33 +154,32 @@ module _ (a : Agreed) (s : Surroundings) where
   read1 : (n x : ℕ) (q : Put) → orders_for x (read_message a.trip (frame_of a.trip n (packet_of a s q))) ≡ cond (eqb n x) (put_events q) []
   read1 n x q = read_orders a.trip n (frame_of a.trip n (packet_of a s q)) (put_events q) (takes q) x (read_put a s n q)
 
-  mine : (n x : ℕ) (qs : List Put) → eqb n x ≡ true → orders_in a.trip x (frames_of a s n qs) ≡ events_of qs
-  mine n x [] e = refl
-  mine n x (q ∷ qs) e = ap (λ y. y ++ orders_in a.trip x (frames_of a s n qs)) (read1 n x q ∙ ap (λ b. cond b (put_events q) []) e) ∙ ap (λ y. put_events q ++ y) (mine n x qs e)
-
-  others : (n x : ℕ) (qs : List Put) → eqb n x ≡ false → orders_in a.trip x (frames_of a s n qs) ≡ []
-  others n x [] e = refl
-  others n x (q ∷ qs) e = let ih = others n x qs e in grind arith
+  read_all : (n x : ℕ) (qs : List Put) → orders_in a.trip x (frames_of a s n qs) ≡ cond (eqb n x) (events_of qs) []
+  read_all n x [] = grind arith
+  read_all n x (q ∷ qs) = let r = read1 n x q in let ih = read_all n x qs in grind arith
 
   module _ (dist : Distinct a.numbers) where
+    others : (i k : ℕ) (qs : List Put) → i < k → k < length a.numbers → orders_in a.trip (number_at a i) (frames_of a s (number_at a k) qs) ≡ []
+    others i k qs h n = let d = dist k i n (omega arith) in let r = read_all (number_at a k) (number_at a i) qs in grind (arith, nat_tests)
+
     behind : (i k : ℕ) (ps : List (List Put)) → i < k → k + length ps ≤ length a.numbers → orders_in a.trip (number_at a i) (frames_from a s k ps) ≡ []
     behind i k [] h n = refl
     behind i k (q ∷ ps) h n =
-        reads_append a.trip (number_at a i) (frames_of a s (number_at a k) q) (frames_from a s (suc k) ps)
-        ∙ ap (λ x. x ++ orders_in a.trip (number_at a i) (frames_from a s (suc k) ps)) (others (number_at a k) (number_at a i) q (eq_no (number_at a k) (number_at a i) (λ e. let z = dist k i (omega arith) (omega arith) e in omega arith)))
-        ∙ behind i (suc k) ps (omega arith) (omega arith)
+        let r = reads_append a.trip (number_at a i) (frames_of a s (number_at a k) q) (frames_from a s (suc k) ps) in
+        let f = others i k q h (omega arith) in
+        let ih = behind i (suc k) ps (omega arith) (omega arith) in grind arith
 
     pub read_at : (k j i : ℕ) (ps : List (List Put)) → i ≡ k + j → j < length ps → k + length ps ≤ length a.numbers → orders_in a.trip (number_at a i) (frames_from a s k ps) ≡ events_of (get_or ps j [])
     read_at k j i [] e h n = refl
     read_at k zero i (q ∷ ps) e h n =
-        let y : i ≡ k = omega arith in
-        reads_append a.trip (number_at a i) (frames_of a s (number_at a k) q) (frames_from a s (suc k) ps)
-        ∙ ap (λ x. orders_in a.trip (number_at a i) (frames_of a s (number_at a k) q) ++ x) (behind i (suc k) ps (omega arith) (omega arith))
-        ∙ append-nil _ ∙ mine (number_at a k) (number_at a i) q (ap (λ x. eqb (number_at a x) (number_at a i)) (sym y) ∙ eq_yes (number_at a i))
+        let r = reads_append a.trip (number_at a i) (frames_of a s (number_at a k) q) (frames_from a s (suc k) ps) in
+        let f = read_all (number_at a k) (number_at a i) q in
+        let b = behind i (suc k) ps (omega arith) (omega arith) in grind (arith, nat_tests, append-nil {A = Event})
     read_at k (suc j) i (q ∷ ps) e h n =
-        reads_append a.trip (number_at a i) (frames_of a s (number_at a k) q) (frames_from a s (suc k) ps)
-        ∙ ap (λ x. x ++ orders_in a.trip (number_at a i) (frames_from a s (suc k) ps)) (others (number_at a k) (number_at a i) q (eq_no (number_at a k) (number_at a i) (λ eq. let z = dist k i (omega arith) (omega arith) eq in omega arith)))
-        ∙ read_at (suc k) j i ps (omega arith) (omega arith) (omega arith)
+        let r = reads_append a.trip (number_at a i) (frames_of a s (number_at a k) q) (frames_from a s (suc k) ps) in
+        let d = dist k i (omega arith) (omega arith) in
+        let f = read_all (number_at a k) (number_at a i) q in
+        let ih = read_at (suc k) j i ps (omega arith) (omega arith) (omega arith) in grind (arith, nat_tests)
 
   frames_put : (n : ℕ) (qs : List Put) → orders_put a.trip (frames_of a s n qs) ≡ takes_all qs
   frames_put n [] = refl
