@@ -4,9 +4,10 @@ use Rattle.std.specs.Int.Digits.{number_from_digits}
 use Rattle.vocabulary.specs.Settings.{Agreed}
 use Rattle.vocabulary.specs.declared.fault.Fault.{Fault}
 use Rattle.vocabulary.specs.declared.level.Level.{Level}
-use Rattle.vocabulary.specs.declared.level.Level.TheVariants.{Zero, Ntc, One, Two, Three}
-use Rattle.vocabulary.specs.declared.order.Order.TheVariants.{ToConfiguration, ToDataEntry, ToColdStandby, ToColdStandbyConditionally, ToHotStandby, ToDataAvailable}
+use Rattle.vocabulary.specs.declared.level.Level.TheVariants.{Zero}
+use Rattle.vocabulary.specs.declared.order.Order.TheVariants.{ToConfiguration}
 use Rattle.vocabulary.specs.Levels.{level_number, mode_number}
+use Rattle.vocabulary.specs.States.{order_number}
 use Rattle.bits.specs.Bits.{field}
 use Rattle.wire.specs.Messages.{Reading, read_message}
 use Rattle.wire.specs.Packets.{Content, version, status, notice}
@@ -32,29 +33,24 @@ abbrev packet_in : Result Reading Fault → Content
 packet_in (Ok m) = first_of m.packets
 packet_in (Err f) = notice
 
+-- a frame that reads as one packet
+reads : (trip n : ℕ) (f : List ℕ) (p : Content) → read_message trip f ≡ Ok (record { sender = n; packets = p ∷ [] }) → Read trip n f (orders_by p) (is_order p)
+reads trip n f p e = record { packet = p; reads = e; orders = refl; count = refl }
+
 -- the version reply: three bits of the major share an octet with the length
 abbrev version_frame : ℕ → ℕ → ℕ → ℕ → ℕ → ℕ → List ℕ
 version_frame n x y z o p = n ∷ (7 ∷ (1 ∷ (1 ∷ (number_from_digits 2 (0 ∷ (0 ∷ (1 ∷ (0 ∷ (1 ∷ (x ∷ (y ∷ (z ∷ [])))))))) ∷ (o ∷ (p ∷ []))))))
 
-abbrev VersionReads : ℕ → ℕ → List ℕ → Type 0
-VersionReads trip n f = Read trip n f [] 0
-
-version_reads : (trip n x y z o p : ℕ) → x < 2 → y < 2 → z < 2 → VersionReads trip n (version_frame n x y z o p)
-version_reads trip n zero zero zero o p a b c = record { packet = packet_in (read_message trip (version_frame n 0 0 0 o p)); reads = refl; orders = refl; count = refl }
-version_reads trip n zero zero (suc zero) o p a b c = record { packet = packet_in (read_message trip (version_frame n 0 0 1 o p)); reads = refl; orders = refl; count = refl }
-version_reads trip n zero (suc zero) zero o p a b c = record { packet = packet_in (read_message trip (version_frame n 0 1 0 o p)); reads = refl; orders = refl; count = refl }
-version_reads trip n zero (suc zero) (suc zero) o p a b c = record { packet = packet_in (read_message trip (version_frame n 0 1 1 o p)); reads = refl; orders = refl; count = refl }
-version_reads trip n (suc zero) zero zero o p a b c = record { packet = packet_in (read_message trip (version_frame n 1 0 0 o p)); reads = refl; orders = refl; count = refl }
-version_reads trip n (suc zero) zero (suc zero) o p a b c = record { packet = packet_in (read_message trip (version_frame n 1 0 1 o p)); reads = refl; orders = refl; count = refl }
-version_reads trip n (suc zero) (suc zero) zero o p a b c = record { packet = packet_in (read_message trip (version_frame n 1 1 0 o p)); reads = refl; orders = refl; count = refl }
-version_reads trip n (suc zero) (suc zero) (suc zero) o p a b c = record { packet = packet_in (read_message trip (version_frame n 1 1 1 o p)); reads = refl; orders = refl; count = refl }
-version_reads trip n (suc (suc x)) y z o p a b c = absurd (omega arith)
-version_reads trip n zero (suc (suc y)) z o p a b c = absurd (omega arith)
-version_reads trip n (suc zero) (suc (suc y)) z o p a b c = absurd (omega arith)
-version_reads trip n zero zero (suc (suc z)) o p a b c = absurd (omega arith)
-version_reads trip n zero (suc zero) (suc (suc z)) o p a b c = absurd (omega arith)
-version_reads trip n (suc zero) zero (suc (suc z)) o p a b c = absurd (omega arith)
-version_reads trip n (suc zero) (suc zero) (suc (suc z)) o p a b c = absurd (omega arith)
+version_reads : (trip n x y z o p : ℕ) → x < 2 → y < 2 → z < 2 → Read trip n (version_frame n x y z o p) [] 0
+version_reads trip n zero zero zero o p a b c = reads trip n (version_frame n 0 0 0 o p) (packet_in (read_message trip (version_frame n 0 0 0 o p))) refl
+version_reads trip n zero zero (suc zero) o p a b c = reads trip n (version_frame n 0 0 1 o p) (packet_in (read_message trip (version_frame n 0 0 1 o p))) refl
+version_reads trip n zero (suc zero) zero o p a b c = reads trip n (version_frame n 0 1 0 o p) (packet_in (read_message trip (version_frame n 0 1 0 o p))) refl
+version_reads trip n zero (suc zero) (suc zero) o p a b c = reads trip n (version_frame n 0 1 1 o p) (packet_in (read_message trip (version_frame n 0 1 1 o p))) refl
+version_reads trip n (suc zero) zero zero o p a b c = reads trip n (version_frame n 1 0 0 o p) (packet_in (read_message trip (version_frame n 1 0 0 o p))) refl
+version_reads trip n (suc zero) zero (suc zero) o p a b c = reads trip n (version_frame n 1 0 1 o p) (packet_in (read_message trip (version_frame n 1 0 1 o p))) refl
+version_reads trip n (suc zero) (suc zero) zero o p a b c = reads trip n (version_frame n 1 1 0 o p) (packet_in (read_message trip (version_frame n 1 1 0 o p))) refl
+version_reads trip n (suc zero) (suc zero) (suc zero) o p a b c = reads trip n (version_frame n 1 1 1 o p) (packet_in (read_message trip (version_frame n 1 1 1 o p))) refl
+version_reads trip n x y z o p a b c = absurd (omega arith)
 
 bit_small : (k : ℕ) → k % 2 < 2
 bit_small k = grind arith
@@ -67,11 +63,8 @@ read_version trip n a b =
 
 -- the status: the level shares an octet with the length
 read_status : (trip n : ℕ) (l : Level) (m : ℕ) → Read trip n (frame_of trip n (status (level_number l) m)) [] 0
-read_status trip n Zero m = record { packet = packet_in (read_message trip (frame_of trip n (status 0 m))); reads = refl; orders = refl; count = refl }
-read_status trip n Ntc m = record { packet = packet_in (read_message trip (frame_of trip n (status 1 m))); reads = refl; orders = refl; count = refl }
-read_status trip n One m = record { packet = packet_in (read_message trip (frame_of trip n (status 2 m))); reads = refl; orders = refl; count = refl }
-read_status trip n Two m = record { packet = packet_in (read_message trip (frame_of trip n (status 3 m))); reads = refl; orders = refl; count = refl }
-read_status trip n Three m = record { packet = packet_in (read_message trip (frame_of trip n (status 4 m))); reads = refl; orders = refl; count = refl }
+read_status trip n Zero m = reads trip n (frame_of trip n (status 0 m)) (packet_in (read_message trip (frame_of trip n (status 0 m)))) refl
+read_status trip n l m = reads trip n (frame_of trip n (status (level_number l) m)) (packet_in (read_message trip (frame_of trip n (status (level_number l) m)))) refl
 
 -- the orders that a put is
 abbrev pub put_events : Put → List Event
@@ -83,13 +76,9 @@ put_events (ordered o) = just (took o) ∷ []
 pub read_put : (a : Agreed) (s : Surroundings) (n : ℕ) (q : Put) → Read a.trip n (frame_of a.trip n (packet_of a s q)) (put_events q) (takes q)
 read_put a s n (reply major) = read_version a.trip n major (minor_for a.versions major)
 read_put a s n puts.status = read_status a.trip n s.level (mode_number s.mode)
-read_put a s n failure = record { packet = wire.order 8; reads = refl; orders = refl; count = refl }
-read_put a s n (ordered ToConfiguration) = record { packet = wire.order 2; reads = refl; orders = refl; count = refl }
-read_put a s n (ordered ToDataEntry) = record { packet = wire.order 3; reads = refl; orders = refl; count = refl }
-read_put a s n (ordered ToColdStandby) = record { packet = wire.order 4; reads = refl; orders = refl; count = refl }
-read_put a s n (ordered ToColdStandbyConditionally) = record { packet = wire.order 5; reads = refl; orders = refl; count = refl }
-read_put a s n (ordered ToHotStandby) = record { packet = wire.order 6; reads = refl; orders = refl; count = refl }
-read_put a s n (ordered ToDataAvailable) = record { packet = wire.order 7; reads = refl; orders = refl; count = refl }
+read_put a s n failure = reads a.trip n (frame_of a.trip n (wire.order 8)) (wire.order 8) refl
+read_put a s n (ordered ToConfiguration) = reads a.trip n (frame_of a.trip n (wire.order 2)) (wire.order 2) refl
+read_put a s n (ordered o) = reads a.trip n (frame_of a.trip n (wire.order (order_number o))) (wire.order (order_number o)) refl
 
 pub read_orders : (trip n : ℕ) (f : List ℕ) (es : List Event) (k x : ℕ) → Read trip n f es k → orders_for x (read_message trip f) ≡ cond (eqb n x) es []
 read_orders trip n f es k x r = grind arith

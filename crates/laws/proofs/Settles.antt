@@ -1,5 +1,5 @@
 -- The settling, as the list of what each row put.
-use Rattle.std.proofs.Common.{◌≡◌, ℕ, zero, suc, ◌+◌, ◌-◌, ◌<◌, ◌≤◌, Bool, true, false, cond, eqb, ltb, List, [], ◌∷◌, ◌++◌, length, get_or, take, Option, sym, refl, ap, ◌∙◌, append_assoc, append-nil, arith, length-append, length-take-le}
+use Rattle.std.proofs.Common.{◌≡◌, ℕ, zero, suc, ◌+◌, ◌-◌, ◌<◌, ◌≤◌, true, false, cond, eqb, ltb, List, [], ◌∷◌, ◌++◌, length, get_or, take, Option, sym, refl, ap, ◌∙◌, append_assoc, append-nil, arith, length-append, length-take-le}
 use Rattle.std.proofs.lemmas.Bool.{cond_both}
 use Rattle.std.proofs.lemmas.Bool.Decides.{nat_tests}
 use Rattle.std.proofs.lemmas.List.{length_push}
@@ -19,7 +19,7 @@ use Rattle.steps.specs.declared.row.Row.{Row}
 use Rattle.steps.specs.declared.surroundings.Surroundings.{Surroundings}
 use Rattle.laws.specs.Events.{Event, orders_for, orders_in, orders_put}
 use Rattle.laws.specs.Lawful.{ForUnit}
-use Rattle.laws.proofs.Places.{Distinct, eq_yes, eq_no, among_at}
+use Rattle.laws.proofs.Places.{Distinct, among_at}
 use Rattle.laws.proofs.Frames.{put_events, read_put, read_orders, read_count}
 
 abbrev pub events_of : List Put → List Event

@@ -2,7 +2,7 @@
 use Rattle.std.proofs.Common.{◌≡◌, ℕ, ◌+◌, false, cond, ◌&&◌, ◌⊎◌, ◌↔◌, List, [], ◌∷◌, ◌++◌, Some, None, Option, sym, refl, ap, ◌∙◌, inl, inr, arith}
 use Rattle.vocabulary.specs.declared.order.Order.{Order}
 use Rattle.steps.specs.Rows.{is_conditional}
-use Rattle.laws.specs.Events.{Event, Happening, just, took, took_failure, reported, asked, noticed, greeted, parted, ticked, off, elsewhere}
+use Rattle.laws.specs.Events.{Event, Happening, just, took, noticed, ticked}
 use Rattle.laws.specs.OpenOrders.{Open, next, open_from, open_order, closes, NoneCloses, some_notice, since_notice, ticks_in, Waits}
 use Rattle.laws.proofs.Lists.{open_append}
 
