@@ -98,24 +98,18 @@ module _ (lim : Order → ℕ) (low : (o : Order) → 1 ≤ lim o) where
 -- puts alter neither the held state nor the cause
 pub took_held : (p : List Put) (r : Row) → (took_all p r).held ≡ r.held
 took_held [] r = refl
-took_held (reply m ∷ qs) r = took_held qs (puts.took (reply m) r)
-took_held (status ∷ qs) r = took_held qs (puts.took status r)
-took_held (failure ∷ qs) r = took_held qs (puts.took failure r)
-took_held (ordered o ∷ qs) r = took_held qs (puts.took (ordered o) r)
+took_held (q ∷ qs) r = let ih = took_held qs (puts.took q r) in grind arith
 
 took_cause : (p : List Put) (r : Row) → (took_all p r).cause ≡ r.cause
 took_cause [] r = refl
-took_cause (reply m ∷ qs) r = took_cause qs (puts.took (reply m) r)
-took_cause (status ∷ qs) r = took_cause qs (puts.took status r)
-took_cause (failure ∷ qs) r = took_cause qs (puts.took failure r)
-took_cause (ordered o ∷ qs) r = took_cause qs (puts.took (ordered o) r)
+took_cause (q ∷ qs) r = let ih = took_cause qs (puts.took q r) in grind arith
 
 pub fell_took : (p : List Put) (q r : Row) → fell q (took_all p r) ≡ fell q r
-fell_took p q r = ap (λ h. cond (is_failure q.held) None (cond (is_failure h) (took_all p r).cause None)) (took_held p r) ∙ ap (λ c. cond (is_failure q.held) None (cond (is_failure r.held) c None)) (took_cause p r)
+fell_took p q r = let h = took_held p r in let c = took_cause p r in grind arith
 
 -- DA and HS
-move_few : (h a b x : Bool) → x ≡ false → bit (h || (x || a)) ≤ bit (h || (a || b))
-move_few v0 a b x e = grind arith
+few_or : (h a b x : Bool) → x ≡ false → bit (h || (x || a)) ≤ bit (h || (a || b))
+few_or h a b x e = grind arith
 
 module _ (t : State) where
   abbrev pub here : Row → ℕ
@@ -130,10 +124,8 @@ module _ (t : State) where
 
   -- an order to t only where no other is at t
   abbrev pub Free : List Row → List Row → Put → Type 0
-  Free pre rest (reply m) = Unit {0}
-  Free pre rest status = Unit {0}
-  Free pre rest failure = Unit {0}
   Free pre rest (ordered o) = same_state (target_of o) t ≡ true → (some_at t pre || some_at t rest) ≡ false
+  Free pre rest q = Unit {0}
 
   abbrev pub FreeAll : List Row → List Row → List Put → Type 0
   FreeAll pre rest [] = Unit {0}
@@ -144,41 +136,30 @@ module _ (t : State) where
   free_take pre rest (suc n) [] h = tt
   free_take pre rest (suc n) (q ∷ qs) h = (h.0, free_take pre rest n qs h.1)
 
-  giving : (pre : List Row) (r : Row) (rest : List Row) (o : Order) → (same_state (target_of o) t ≡ true → (some_at t pre || some_at t rest) ≡ false) → (b : Bool) → same_state (target_of o) t ≡ b →
-      sum_by here pre + (here r + sum_by here rest) ≤ 1 → sum_by here pre + (here (puts.took (ordered o) r) + sum_by here rest) ≤ 1
-  giving pre r rest o ok true q h =
-      let k = ok q in
-      omega (arith, none_at pre (or_l _ _ k), none_at rest (or_r (some_at t pre) (some_at t rest) k), bit_one (at_state t (puts.took (ordered o) r)))
-  giving pre r rest o ok false q h = omega (arith, move_few (same_state r.held t) (aims_at (order_in r.open) (state_number t)) (aims_at r.earlier (state_number t)) (same_state (target_of o) t) q)
+  ordered_few : (r : Row) (o : Order) → same_state (target_of o) t ≡ false → here (puts.took (ordered o) r) ≤ here r
+  ordered_few r o e = few_or (same_state r.held t) (aims_at (order_in r.open) (state_number t)) (aims_at r.earlier (state_number t)) (same_state (target_of o) t) e
+
+  gives : (pre : List Row) (r : Row) (rest : List Row) (q : Put) → Free pre rest q → sum_by here pre + (here r + sum_by here rest) ≤ 1 → sum_by here pre + (here (puts.took q r) + sum_by here rest) ≤ 1
+  gives pre r rest (ordered o) ok h = at (same_state (target_of o) t) refl
+    where
+      at : (b : Bool) → same_state (target_of o) t ≡ b → sum_by here pre + (here (puts.took (ordered o) r) + sum_by here rest) ≤ 1
+      at true e =
+          let k = ok e in
+          omega (arith, none_at pre (or_l _ _ k), none_at rest (or_r (some_at t pre) (some_at t rest) k), bit_one (at_state t (puts.took (ordered o) r)))
+      at false e = omega (arith, ordered_few r o e)
+  gives pre r rest q ok h = h
 
   walk : (pre : List Row) (r : Row) (rest : List Row) (qs : List Put) → FreeAll pre rest qs → sum_by here pre + (here r + sum_by here rest) ≤ 1 → sum_by here pre + (here (took_all qs r) + sum_by here rest) ≤ 1
   walk pre r rest [] ok h = h
-  walk pre r rest (reply m ∷ qs) ok h = walk pre (puts.took (reply m) r) rest qs ok.1 h
-  walk pre r rest (status ∷ qs) ok h = walk pre (puts.took status r) rest qs ok.1 h
-  walk pre r rest (failure ∷ qs) ok h = walk pre (puts.took failure r) rest qs ok.1 h
-  walk pre r rest (ordered o ∷ qs) ok h = walk pre (puts.took (ordered o) r) rest qs ok.1 (giving pre r rest o ok.0 (same_state (target_of o) t) refl h)
+  walk pre r rest (q ∷ qs) ok h = walk pre (puts.took q r) rest qs ok.1 (gives pre r rest q ok.0 h)
 
   -- what a row would put, by the book's answer
+  free_puts : (pre rest : List Row) (checked due down f : Bool) (v : Option ℕ) (x : Option Order) → ((o : Order) → x ≡ Some o → Free pre rest (ordered o)) →
+      FreeAll pre rest (cond checked (replies v ++ (cond due (status ∷ []) [] ++ (cond down (failure ∷ []) [] ++ cond f [] (orders x)))) [])
+  free_puts pre rest checked due down f v x ok = grind arith
+
   wanted_free : (pre : List Row) (r : Row) (rest : List Row) (answer : Option Order) → ((o : Order) → answer ≡ Some o → Free pre rest (ordered o)) → FreeAll pre rest (wanted answer r)
-  wanted_free pre r rest answer ok = a (is_checked r.link) r.reply r.status_due r.failure_due (is_failure r.held) answer refl
-    where
-      f3 : (f : Bool) (x : Option Order) → answer ≡ x → FreeAll pre rest (cond f [] (orders x))
-      f3 true x e = tt
-      f3 false None e = tt
-      f3 false (Some o) e = (ok o e, tt)
-
-      f2 : (d f : Bool) (x : Option Order) → answer ≡ x → FreeAll pre rest (cond d (failure ∷ []) [] ++ cond f [] (orders x))
-      f2 true f x e = (tt, f3 f x e)
-      f2 false f x e = f3 f x e
-
-      f1 : (c d f : Bool) (x : Option Order) → answer ≡ x → FreeAll pre rest (cond c (status ∷ []) [] ++ (cond d (failure ∷ []) [] ++ cond f [] (orders x)))
-      f1 true d f x e = (tt, f2 d f x e)
-      f1 false d f x e = f2 d f x e
-
-      a : (b : Bool) (v : Option ℕ) (c d f : Bool) (x : Option Order) → answer ≡ x → FreeAll pre rest (cond b (replies v ++ (cond c (status ∷ []) [] ++ (cond d (failure ∷ []) [] ++ cond f [] (orders x)))) [])
-      a false v c d f x e = tt
-      a true (Some m) c d f x e = (tt, f1 c d f x e)
-      a true None c d f x e = f1 c d f x e
+  wanted_free pre r rest answer ok = free_puts pre rest (is_checked r.link) r.status_due r.failure_due (is_failure r.held) r.reply answer ok
 
   module _ (c : Setup) (s : Surroundings) (ok : (n : ℕ) (pre : List Row) (r : Row) (rest : List Row) (o : Order) → c.answers (view_of s n pre r rest) ≡ Some o → same_state (target_of o) t ≡ true → (some_at t pre || some_at t rest) ≡ false) where
     pub settle_few : (pre rest : List Row) (free : ℕ) → sum_by here pre + sum_by here rest ≤ 1 → sum_by here pre + sum_by here (settle c s pre rest free).rows ≤ 1
