@@ -142,14 +142,21 @@ fn first_rule(view: View) -> Option<Condition>
     }
 }
 
+// The first rule that fits, unless the order that is open forbids its order.
+#[tactic(auto, unfolding(crate::specs::Standard::reason_for))]
+fn permitted(view: View) -> Option<Condition>
+    ensures { result ≡ reason_for view }
+{
+    first_rule(view).filter(|condition| is_free(view.open, condition.order()))
+}
+
 impl Standard {
     // The condition that calls for an order in this view, unless an open order forbids it.
-    #[tactic(auto, unfolding(crate::specs::Standard::reason_for))]
     pub fn reason(&self, view: View) -> Option<Condition>
         ensures value { result ≡ reason_for view }
         ensures exactly { ExactlyWhen view (standard_answer view) result }
     {
-        first_rule(view).filter(|condition| is_free(view.open, condition.order()))
+        permitted(view)
     }
 }
 
