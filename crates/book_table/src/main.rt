@@ -145,6 +145,7 @@ fn answers(books: &[&dyn Book], view: View) -> bool {
     books.iter().any(|book| book.consult(view).is_some())
 }
 
+// The words of the columns: the table's own, not names of the types.
 fn level_name(level: LevelSeen) -> &'static str {
     match level {
         LevelSeen::NotNtc => "ETCS",
@@ -186,12 +187,12 @@ fn shown<T: Drop>(matters: bool, fact: T) -> Or<T> {
 // The facts of a view that make a difference in its held state.
 fn print_facts(rt: &HostRuntime, view: View) -> io::Result<()> {
     let held = view.held;
-    let in_co = matches!(held, State::Configuration);
+    let in_co = held == State::Configuration;
     let before_standby = matches!(
         held,
         State::PowerOn | State::Configuration | State::DataEntry
     );
-    let in_cs = matches!(held, State::ColdStandby);
+    let in_cs = held == State::ColdStandby;
     let in_standby = matches!(held, State::ColdStandby | State::HotStandby);
     let want = shown(before_standby, Or(view.want, "-"));
     let data = shown(in_co, mark(view.train_data));
@@ -235,7 +236,8 @@ fn print_line(rt: &HostRuntime, books: &[&dyn Book], view: View) -> io::Result<(
 }
 
 // How many views there are, how many of them are answered, how many otherwise than their stand-ins,
-// and how many lines were printed.
+// and how many lines were printed. The books are passed to each method: no field may hold a `dyn`
+// behind a reference yet.
 #[derive(Default, Drop)]
 struct Counts {
     views: u32,
