@@ -1,5 +1,5 @@
 -- One row and the events of its unit, step by step.
-use Rattle.std.proofs.Common.{◌≡◌, ℕ, ◌+◌, ◌<◌, ◌≤◌, Bool, true, false, cond, ◌&&◌, ◌||◌, eqb, ◌↔◌, Some, None, Option, refl, ◌∙◌, arith}
+use Rattle.std.proofs.Common.{◌≡◌, ℕ, ◌+◌, ◌<◌, ◌≤◌, Bool, true, false, cond, ◌&&◌, eqb, ◌↔◌, Some, None, Option, refl, arith}
 use Rattle.vocabulary.specs.States.{state_number}
 use Rattle.vocabulary.specs.declared.cause.Cause.{Cause}
 use Rattle.vocabulary.specs.declared.cause.Cause.TheVariants as cause
