@@ -224,7 +224,7 @@ message_valid a rows (Ok m) ws e =
     valid_to a.numbers k ws q.1 (heard_valid a.numbers m.sender m.packets q.0)
 
 status_valid : (ns : List ℕ) (l : Option Level) (m : Option Mode) (b : Bool) (n : ℕ) (ws : List Step) → status_steps l m b n ≡ Ok ws → AllValid ns ws
-status_valid ns v1 m b n ws e = grind arith
+status_valid ns l m b n ws e = grind arith
 
 pub steps_valid : (a : Agreed) (rows : List Row) (call : Call) (ws : List Step) → steps_of a rows call ≡ Ok ws → AllValid a.numbers ws
 steps_valid a rows (connect n) ws e = grind arith

@@ -33,7 +33,6 @@ timely_at lim s [] fs e a = a.0
 timely_at lim s (x ∷ es) fs e a = timely_at lim (next s x) es fs e a.1
 
 -- each order taken is closed once, or still open
-
 one : (s : Option Open) (e : Event) → taken s e + is_open s ≡ (((answered s e + followed s e) + failed s e) + voided s e) + is_open (next s e)
 one s e = grind arith
 

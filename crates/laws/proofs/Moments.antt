@@ -176,18 +176,16 @@ follows_total (p ∷ ps) [] e = grind arith
 follows_total (p ∷ ps) (r ∷ rs) e = omega (arith, follows_total ps rs (omega arith))
 
 no_order : (x : ℕ) (w : Step) → is_failure_order (happening x w) ≡ 0
-no_order x v1 = grind arith
+no_order x w = grind arith
 
 off_step : (x : ℕ) (w : Step) → is_power_off w ≡ false → is_off (happening x w) ≡ false
-off_step x v1 e = grind arith
+off_step x w e = grind arith
 
 -- what is asked of a book
 pub record Good (c : Setup) : Type 0 where
   pub low : (o : Order) → 1 ≤ c.limits o
   pub da : (v : View) → c.answers v ≡ Some ToDataAvailable → v.other_at_da ≡ false
   pub hs : (v : View) → c.answers v ≡ Some ToHotStandby → v.other_at_hs ≡ false
-
--- counting is summing
 
 module _ (c : Setup) (good : Good c) (dist : Distinct c.settings.numbers) (w : Step) (s : Surroundings) (rows : List Row) (free : ℕ) (fit : length rows ≡ length c.settings.numbers) (v : Valid c.settings.numbers w) (sound : (i : ℕ) → i < length rows → Sound c.limits (row_at i rows)) where
   pub puts_of : Puts c.settings (surroundings_by w s) 0 (acted c s w rows) (settled_by c s w rows free)

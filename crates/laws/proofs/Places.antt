@@ -15,17 +15,14 @@ eq_yes i = grind arith
 pub same_num : (i j : ℕ) → eqb i j ≡ true → i ≡ j
 same_num i j e = grind arith
 
-pub eq_no : (i j : ℕ) → (i ≡ j → ⊥) → eqb i j ≡ false
-eq_no i j h = grind arith
-
 pub apart : (i j : ℕ) → eqb i j ≡ false → i ≡ j → ⊥
 apart i j e q = grind arith
 
 pub or_l : (x y : Bool) → (x || y) ≡ false → x ≡ false
-or_l v0 y e = grind arith
+or_l x y e = grind arith
 
 pub or_r : (x y : Bool) → (x || y) ≡ false → y ≡ false
-or_r v0 y e = grind arith
+or_r x y e = grind arith
 
 among_push : (x n : ℕ) (e : List ℕ) → among x (e ++ n ∷ []) ≡ false → (among x e ≡ false) × (n ≢ x)
 among_push x n e h = let a = list_any-append (λ m. eqb m x) e (n ∷ []) in grind (arith, nat_tests)

@@ -197,7 +197,7 @@ waits_shown es (Some v) o e t = ap Some (open_order_lem (record { order = v.orde
 
 -- a failed unit, by its bit
 bit_true : (b : Bool) → 1 ≤ bit b → b ≡ true
-bit_true v0 h = grind arith
+bit_true b h = grind arith
 
 -- a new control
 few_fresh : (t : State) (n : ℕ) → here t fresh_row ≡ 0 → sum_by (here t) (replicate n fresh_row) ≡ 0

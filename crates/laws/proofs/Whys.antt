@@ -22,8 +22,6 @@ use Rattle.laws.specs.Lawful.{ForTime}
 abbrev pub Why : Versions → Row → Row → Happening → Type 0
 Why v r t w = (c : Cause) → (ForTime (Some c) → ⊥) → (fell r t ≡ Some c) ↔ ((is_failure r.held ≡ false) × Reason v r w c)
 
--- what keeps the held state, where there is no reason
-
 -- a packet, by what it is to its row
 why_report : (v : Versions) (r : Row) (s : ℕ) (b1 b2 b3 b4 b5 b6 : Bool) →
     is_failure r.held ≡ b1 → eqb s 8 ≡ b2 → aims_at (order_in r.open) s ≡ b3 → aims_at r.earlier s ≡ b4 → eqb (state_number r.held) s ≡ b5 → (eqb (state_number r.held) 0 && eqb s 1) ≡ b6 →
