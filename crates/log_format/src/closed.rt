@@ -1,30 +1,34 @@
 // A log that takes no more frames.
-ghost use Rattle.std.specs.Prelude.{◌≡◌, drop, ◌==◌};
-ghost use Rattle.std.specs.Option.{option_map};
-ghost use Rattle.std.specs.List.{slice_get};
+ghost use Rattle.std.specs.Prelude.{◌≡◌};
+ghost use Rattle.std.specs.Iterator.{YieldsFirstBy, item_count};
 ghost use Rattle.vocabulary.specs.Octets.{octets_of};
 ghost use Rattle.log_format.specs.Closed.{closed_frames, closed_in, closed_octets, to_play};
 
 use crate::{ENTRY, read_entry};
 use vocabulary::octets::Frame;
 
-// All octets in which the log lies, those of the log itself, from its first entry to its trailer's end,
-// and how many entries it has.
+// All octets in which the log lies, and those of the log itself, from its first entry to its trailer's end.
 #[derive(Drop)]
 pub struct ClosedLog<'a> {
-    pub octets: &'a [u8],
-    pub log: &'a [u8],
-    pub count: usize,
+    octets: &'a [u8],
+    log: &'a [u8],
 }
 
-// A closed log that is being played: what is left of it, and how many entries that has.
+// A closed log that is being played: what is left of it.
 #[derive(Drop)]
 pub struct Playing<'a> {
     rest: &'a [u8],
-    left: usize,
 }
 
 impl<'a> ClosedLog<'a> {
+    // The log of these octets, which lies in those. Its frames are those of its entries.
+    pub fn new(octets: &'a [u8], log: &'a [u8]) -> ClosedLog<'a>
+        ensures octets { closed_in result ≡ octets.now }
+        ensures log { closed_octets result ≡ log.now }
+    {
+        ClosedLog { octets, log }
+    }
+
     // The log's own octets.
     pub fn as_slice(&self) -> &[u8]
         ensures { result.now ≡ closed_octets self.now }
@@ -43,35 +47,21 @@ impl<'a> ClosedLog<'a> {
     pub fn play(self) -> Playing<'a>
         ensures { to_play result ≡ closed_frames self.entry }
     {
-        Playing {
-            rest: self.log,
-            left: self.count,
-        }
+        Playing { rest: self.log }
     }
 }
 
-impl Playing<'_> {
-    // The next frame, or none behind the last.
-    pub fn next(&mut self) -> Option<Frame>
-        ensures answer { option_map octets_of result ≡ slice_get (to_play self.old) 0 }
-        ensures rest { to_play self.new ≡ drop 1 (to_play self.old) }
-    {
-        if self.is_over() {
-            return None;
-        }
-        if self.rest.len() < ENTRY {
-            return None;
-        }
-        let (entry, rest) = self.rest.split_at(ENTRY);
+impl Iterator for Playing<'_> {
+    type Item = Frame;
+
+    ghost next_gives = { YieldsFirstBy octets_of to_play };
+
+    ghost remaining = { item_count to_play };
+
+    fn next(&mut self) -> Option<Frame> {
+        let (entry, rest) = self.rest.split_first_chunk::<ENTRY>()?;
         let frame = read_entry(entry)?;
         self.rest = rest;
-        self.left -= 1;
         Some(frame)
-    }
-
-    fn is_over(&self) -> bool
-        ensures { result ≡ (self.now.left == 0) }
-    {
-        self.left == 0
     }
 }

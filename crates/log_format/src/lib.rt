@@ -1,10 +1,10 @@
 // A log of frames, as octets: what is common to writing and reading it.
 #![tactic(auto)]
 
-ghost use Rattle.std.specs.Prelude.{◌≡◌, ℕ, ◌<◌, ◌≤◌, length};
+ghost use Rattle.std.specs.Prelude.{◌≡◌};
 ghost use Rattle.std.specs.Option.{option_map};
-ghost use Rattle.vocabulary.specs.Octets.{in_size, octets_of};
-ghost use Rattle.log_format.specs.Format.{entry_of, places_in, trailer_of, two_octets};
+ghost use Rattle.vocabulary.specs.Octets.{octets_of};
+ghost use Rattle.log_format.specs.Format.{places_in};
 ghost use Rattle.log_format.specs.Reading.{blank, is_entry, read_entry};
 
 use vocabulary::octets::Frame;
@@ -18,11 +18,8 @@ pub const TRAILER: usize = 8;
 
 pub const MOST: usize = 3840;
 
-// The octets of an entry that are a frame and its fill.
-const FILLED: usize = 16;
-
 // What every trailer begins with: it is written at closing and compared at reading.
-pub const MARK: [u8; 4] = [0x53, 0x54, 0x4D, 0x54];
+pub const MARK: [u8; 4] = *b"STMT";
 
 // How many places a log over so many octets has.
 pub fn places_in(octets: usize) -> usize
@@ -31,36 +28,31 @@ pub fn places_in(octets: usize) -> usize
     (octets.saturating_sub(TRAILER) / ENTRY).min(MOST)
 }
 
-// Whether octets are all 00.
-fn is_blank(octets: &[u8]) -> bool
-    ensures { result ≡ blank octets.now }
-{
-    for x in octets {
-        if *x != 0 {
-            return false;
-        }
-    }
-    true
-}
-
 // Whether octets are an entry.
 pub fn is_entry(octets: &[u8]) -> bool
     ensures { result ≡ is_entry octets.now }
 {
-    if octets.len() != ENTRY {
-        return false;
-    }
-    let len = usize::from(octets[0]);
-    1 <= len && len <= FILLED && is_blank(&octets[1 + len..ENTRY])
+    read_entry(octets).is_some()
+}
+
+// Whether octets are all 00.
+fn is_blank(octets: &[u8]) -> bool
+    ensures { result ≡ blank octets.now }
+{
+    octets.iter().all(|octet| *octet == 0)
 }
 
 // The frame in an entry. Octets that are no entry have none.
 pub fn read_entry(octets: &[u8]) -> Option<Frame>
     ensures { option_map octets_of result ≡ read_entry octets.now }
 {
-    if !is_entry(octets) {
+    if octets.len() != ENTRY {
         return None;
     }
-    let len = usize::from(octets[0]);
-    Frame::new(&octets[1..1 + len])
+    let (len, filled) = octets.split_first()?;
+    let (frame, fill) = filled.split_at_checked(usize::from(*len))?;
+    if !is_blank(fill) {
+        return None;
+    }
+    Frame::new(frame)
 }

@@ -1,76 +1,78 @@
--- The steps of reading a file that has at least a trailer's octets.
-use Rattle.std.proofs.Common.{◌≡◌, ℕ, ◌+◌, ◌-◌, ◌*◌, ◌<◌, ◌≤◌, true, false, cond, eqb, leb, List, ◌++◌, length, get_or, take, drop, Some, None, Ok, Err, sym, refl, ap, ◌∙◌, subst, arith, length-drop}
-use Rattle.std.specs.Str.{bytes_eq}
-use Rattle.std.proofs.lemmas.List.{take-append-drop, take_rest}
-use Rattle.std.proofs.lemmas.Bool.{eqb-true, le-leb, leb-true}
-use Rattle.log_format.specs.Format.{log_of, mark}
-use Rattle.log_format.specs.Reading.{count_in, distance_in, entries_in, frames_in, frames_up_to, is_trailer, no_log, or_wrong, read_before, read_entries, read_log, wrong_from}
-use Rattle.log_format.proofs.Entries.{AllEntries, all_right, four, frames_right}
-use Rattle.log_format.proofs.Laws.{entries_granted, read_steps, written_again}
+-- A file with a trailer in its last 8 octets.
+use Rattle.std.proofs.Common.{◌≡◌, ℕ, ◌+◌, ◌-◌, ◌*◌, ◌/◌, ◌<◌, ◌≤◌, true, cond, not, List, ◌++◌, length, get_or, take, drop, Some, None, Ok, Err, Option, sym, ap, ◌∙◌, subst, arith, length-drop}
+use Rattle.std.specs.List.{position}
+use Rattle.std.specs.Option.{option_map}
+use Rattle.std.proofs.lemmas.List.{take-append-drop}
+use Rattle.std.proofs.lemmas.Bool.Decides.{nat_tests}
+use Rattle.log_format.specs.Format.{log_of}
+use Rattle.log_format.specs.Reading.{count_in, distance_in, entries_in, frames_in, frames_of_log, is_entry, is_trailer, no_log, or_wrong, read_log, wrong_from}
+use Rattle.log_format.proofs.Entries.{AllEntries, AllFrames, all_right, frames_sized, length_frames, wrong_at}
+use Rattle.log_format.proofs.Laws.{frames_log, reads_back, read_steps, written_again}
 
--- What the code reads as the trailer, and where it starts.
-abbrev pub start : List ℕ → ℕ
-start file = length file - 8
+-- The place of the first that is no entry.
+abbrev pub first_wrong : List (List ℕ) → Option ℕ
+first_wrong = position (λ e. not (is_entry e))
 
-abbrev pub last : List ℕ → List ℕ
-last file = take (length file - start file) (drop (start file) file)
+-- The trailer starts at t and counts n entries.
+module _ (file trailer : List ℕ) (t n : ℕ) (size : t + 8 ≡ length file) (cut : trailer ≡ drop (length file - 8) file) (counted : Some n ≡ cond (is_trailer trailer t) (Some (count_in trailer)) None) where
+  here : trailer ≡ drop t file
+  here = let e : length file - 8 ≡ t = omega arith in cut ∙ ap (λ k. drop k file) e
 
-last_is : (file : List ℕ) → last file ≡ drop (start file) file
-last_is file = take_rest file (start file)
+  good : is_trailer trailer t ≡ true
+  good = grind arith
 
-pub no_trailer : (file : List ℕ) → 8 ≤ length file → false ≡ is_trailer (last file) (start file) → Err (no_log (start file)) ≡ read_log file
-no_trailer file long h =
-    let bad : is_trailer (drop (start file) file) (start file) ≡ false = ap (λ x. is_trailer x (start file)) (sym (last_is file)) ∙ sym h in
-    sym (ap (λ b. cond b (read_before (start file) file) (Err (no_log 0))) (le-leb 8 (length file) long)
-    ∙ ap (λ b. cond b (read_entries (count_in (drop (start file) file)) (start file - distance_in (drop (start file) file)) file) (Err (no_log (start file)))) bad)
+  count_is : n ≡ count_in trailer
+  count_is = grind arith
 
-module _ (file : List ℕ) (long : 8 ≤ length file) (good : true ≡ is_trailer (last file) (start file)) (n d : ℕ) (count : n ≡ count_in (last file)) (distance : d ≡ distance_in (last file)) where
-  trailer : is_trailer (drop (start file) file) (start file) ≡ true
-  trailer = ap (λ x. is_trailer x (start file)) (sym (last_is file)) ∙ sym good
+  far : distance_in trailer ≡ 17 * n
+  far = let g = good in let c = count_is in grind (arith, nat_tests)
 
-  count_is : count_in (drop (start file) file) ≡ n
-  count_is = ap count_in (sym (last_is file)) ∙ sym count
+  fits : 17 * n ≤ t
+  fits = let g = good in let c = count_is in grind (arith, nat_tests)
 
-  distance_is : distance_in (drop (start file) file) ≡ d
-  distance_is = ap distance_in (sym (last_is file)) ∙ sym distance
+  few : n ≤ 3840
+  few = let g = good in let c = count_is in grind (arith, nat_tests)
 
-  parts : (bytes_eq (take 4 (last file)) mark ≡ true) × (leb (count_in (last file)) 3840 ≡ true) × (eqb (distance_in (last file)) (17 * count_in (last file)) ≡ true) × (leb (distance_in (last file)) (start file) ≡ true)
-  parts = four (bytes_eq (take 4 (last file)) mark) (leb (count_in (last file)) 3840) (eqb (distance_in (last file)) (17 * count_in (last file))) (leb (distance_in (last file)) (start file)) (sym good)
+  -- The log is what stands from the first entry on, and r is the place of the first wrong entry in it.
+  module _ (log : List ℕ) (from : log ≡ drop (t - 17 * n) file) (r : Option ℕ) (first : r ≡ first_wrong (entries_in (length log / 17) log)) where
+    wrong : wrong_from (entries_in n log) (t - 17 * n) ≡ option_map (λ i. t - 17 * n + 17 * i) r
+    wrong =
+        let e : length log / 17 ≡ n = omega (arith, ap length from, length-drop (t - 17 * n) file, fits) in
+        wrong_at (entries_in n log) (t - 17 * n) ∙ ap (option_map (λ i. t - 17 * n + 17 * i)) (sym (first ∙ ap (λ k. first_wrong (entries_in k log)) e))
 
-  pub fits : d ≤ start file
-  fits = subst (λ k. k ≤ start file) (sym distance) (leb-true (distance_in (last file)) (start file) parts.3)
+    pub wrong_entry : (i : ℕ) → r ≡ Some i → Err (no_log (t - 17 * n + 17 * i)) ≡ read_log file
+    wrong_entry i h =
+        sym (read_steps file t n (t - 17 * n) trailer (omega arith) (omega arith) (sym here) good (sym count_is) (omega (arith, far))
+        ∙ ap (λ os. or_wrong (frames_in n os) (wrong_from (entries_in n os) (t - 17 * n))) (sym from)
+        ∙ ap (or_wrong (frames_in n log)) (wrong ∙ ap (option_map (λ i. t - 17 * n + 17 * i)) h))
 
-  pub far : d ≡ 17 * n
-  far = distance ∙ eqb-true (distance_in (last file)) (17 * count_in (last file)) parts.2 ∙ ap (λ k. 17 * k) (sym count)
+    module _ (right : r ≡ None) (small : (i : ℕ) → get_or file i 0 < 256) where
+      all : AllEntries (entries_in n log)
+      all = all_right (entries_in n log) (t - 17 * n) (wrong ∙ ap (option_map (λ i. t - 17 * n + 17 * i)) right)
 
-  steps : read_log file ≡ read_entries n (start file - d) file
-  steps = read_steps file (start file) n (start file - d) (drop (start file) file) long refl refl trailer count_is (ap (λ k. start file - k) distance_is)
+      sized : AllFrames (frames_in n log)
+      sized = frames_sized (entries_in n log) all
 
-  pub wrong_entry : (p : ℕ) → Some p ≡ wrong_from (entries_in n (drop (start file - d) file)) (start file - d) → Err (no_log p) ≡ read_log file
-  wrong_entry p h = sym (steps ∙ ap (or_wrong (frames_in n (drop (start file - d) file))) (sym h))
+      whole : take (t - 17 * n) file ++ log ≡ file
+      whole = ap (λ x. take (t - 17 * n) file ++ x) from ∙ take-append-drop (t - 17 * n) file
 
-  module _ (right : None ≡ wrong_from (entries_in n (drop (start file - d) file)) (start file - d)) where
-    all : AllEntries (entries_in n (drop (start file - d) file))
-    all = all_right (entries_in n (drop (start file - d) file)) (start file - d) (sym right)
+      written : log ≡ log_of (frames_in n log)
+      written =
+          from ∙ written_again file t n (t - 17 * n) small (omega arith) (ap (λ x. is_trailer x t) (sym here) ∙ good) (count_is ∙ ap count_in here) (omega (arith, fits)) (subst (λ os. AllEntries (entries_in n os)) from all)
+          ∙ ap (λ os. log_of (frames_in n os)) (sym from)
 
-    log_is : take (length file - (start file - d)) (drop (start file - d) file) ≡ drop (start file - d) file
-    log_is = take_rest file (start file - d)
+      frames : frames_of_log log ≡ frames_in n log
+      frames = ap frames_of_log written ∙ frames_log (frames_in n log) sized
 
-    frames : frames_up_to n (take (length file - (start file - d)) (drop (start file - d) file)) ≡ frames_in n (drop (start file - d) file)
-    frames = ap (frames_up_to n) log_is ∙ frames_right n (drop (start file - d) file) all
+      pub same : log ≡ log_of (frames_of_log log)
+      same = written ∙ ap log_of (sym frames)
 
-    pub granted : Ok (frames_up_to n (take (length file - (start file - d)) (drop (start file - d) file))) ≡ read_log file
-    granted = ap Ok frames ∙ sym (steps ∙ entries_granted n (start file - d) file all)
+      pub granted : Ok (frames_of_log log) ≡ read_log file
+      granted =
+          let back = reads_back (take (t - 17 * n) file) (frames_in n log) sized (omega (arith, length_frames n log, few)) in
+          ap Ok frames ∙ sym back ∙ ap read_log (ap (λ x. take (t - 17 * n) file ++ x) (sym written) ∙ whole)
 
-    pub same_octets : ((i : ℕ) → get_or file i 0 < 256) → take (length file - (start file - d)) (drop (start file - d) file) ≡ log_of (frames_up_to n (take (length file - (start file - d)) (drop (start file - d) file)))
-    same_octets small =
-        let a : length file ≡ start file + 8 = omega (arith, long) in
-        let b : start file - d + 17 * n ≡ start file = omega (arith, far, fits) in
-        log_is ∙ written_again file (start file) n (start file - d) small a trailer (sym count_is) b all ∙ ap log_of (sym frames)
-
-    pub at_end : take (length file - length (take (length file - (start file - d)) (drop (start file - d) file))) file ++ take (length file - (start file - d)) (drop (start file - d) file) ≡ file
-    at_end =
-        let k : length file - length (take (length file - (start file - d)) (drop (start file - d) file)) ≡ start file - d =
-        ap (λ xs. length file - length xs) log_is ∙ ap (λ m. length file - m) (length-drop (start file - d) file) ∙ omega (arith, long) in
-        ap (λ m. take m file ++ take (length file - (start file - d)) (drop (start file - d) file)) k
-        ∙ ap (λ xs. take (start file - d) file ++ xs) log_is ∙ take-append-drop (start file - d) file
+      pub at_end : take (length file - length log) file ++ log ≡ file
+      at_end =
+          let k : length file - length log ≡ t - 17 * n = omega (arith, ap length from, length-drop (t - 17 * n) file, fits) in
+          ap (λ m. take m file ++ log) k ∙ whole

@@ -1,45 +1,29 @@
 // Reading a log, which may end a longer file.
 #![tactic(auto)]
 
-ghost use Rattle.std.specs.Prelude.{◌≡◌, ℕ, ◌+◌, ◌*◌, ◌<◌, ◌≤◌, length, take, drop, IfOk};
-ghost use Rattle.std.specs.Str.{bytes_eq};
-ghost use Rattle.log_format.specs.Format.{mark};
-ghost use Rattle.log_format.specs.Reading.{entries_in, is_trailer, no_log, number_at, read_log, wrong_from};
+ghost use Rattle.std.specs.Prelude.{◌≡◌, ◌*◌, ◌/◌, ◌<◌, length, not, position, if◌then◌else◌, Some, None, IfOk, IfSome};
+ghost use Rattle.log_format.specs.Format.{entry_size};
+ghost use Rattle.log_format.specs.Reading.{count_in, entries_in, is_entry, is_trailer, no_log, read_log};
 ghost use Rattle.log_reading.specs.Answers.{EndsFile, by_frames};
 
 use log_format::closed::ClosedLog;
 use log_format::{ENTRY, MARK, MOST, TRAILER, is_entry};
 use vocabulary::fault::{Fault, Layer, Refusal};
 
-// Where count and distance stand in a trailer.
-const COUNT: usize = 4;
-
-const DISTANCE: usize = 6;
-
 // The log that ends a file, or where it fails to be one.
 pub fn read_log(file: &[u8]) -> Result<ClosedLog<'_>, Fault>
     ensures answer { by_frames result ≡ read_log file.now }
     ensures log { IfOk result (λ l. EndsFile file.now l) }
 {
-    let end = file.len();
-    if end < TRAILER {
-        return Err(no_log(0));
+    let (before, trailer) = file.split_last_chunk::<TRAILER>().ok_or(no_log(0))?;
+    let at = before.len();
+    let count = count_in(trailer, at).ok_or(no_log(at))?;
+    let start = at - ENTRY * count;
+    let log = &file[start..];
+    match wrong_entry(log) {
+        Some(place) => Err(no_log(start + ENTRY * place)),
+        None => Ok(ClosedLog::new(file, log)),
     }
-    let at = end - TRAILER;
-    let trailer = &file[at..end];
-    if !is_trailer(trailer, at) {
-        return Err(no_log(at));
-    }
-    let count = number_at(trailer, COUNT);
-    let start = at - number_at(trailer, DISTANCE);
-    if let Some(place) = wrong_entry(file, start, count) {
-        return Err(no_log(place));
-    }
-    Ok(ClosedLog {
-        octets: file,
-        log: &file[start..end],
-        count,
-    })
 }
 
 // Octets that are no log, by the octet that shows it.
@@ -49,43 +33,34 @@ fn no_log(place: usize) -> Fault
     Fault::new(Refusal::Log, place, Layer::Log)
 }
 
-// The number in two octets, the high one first.
-fn number_at(octets: &[u8], at: usize) -> usize
-    requires { at + 1 < length octets.now }
-    ensures { result ≡ number_at octets.now at }
+// How many entries a trailer counts, with so many octets before it. One that is wrong, or that counts more of them, counts none.
+fn count_in(trailer: &[u8; TRAILER], before: usize) -> Option<usize>
+    ensures { result ≡ (if is_trailer trailer.now before then Some (count_in trailer.now) else None) }
 {
-    256 * usize::from(octets[at]) + usize::from(octets[at + 1])
+    let [
+        _,
+        _,
+        _,
+        _,
+        count_high,
+        count_low,
+        distance_high,
+        distance_low,
+    ] = *trailer;
+    let count = usize::from(u16::from_be_bytes([count_high, count_low]));
+    let distance = usize::from(u16::from_be_bytes([distance_high, distance_low]));
+    let right = trailer.starts_with(&MARK)
+        && count <= MOST
+        && distance == ENTRY * count
+        && distance <= before;
+    right.then_some(count)
 }
 
-// Whether a trailer begins with the mark.
-fn has_mark(trailer: &[u8]) -> bool
-    requires { length trailer.now ≡ 8 }
-    ensures { result ≡ bytes_eq (take 4 trailer.now) mark }
+// The place of a log's first entry that is none, counted from 0. What is left behind the entries is the trailer.
+fn wrong_entry(log: &[u8]) -> Option<usize>
+    ensures first { result ≡ position (λ e. not (is_entry e)) (entries_in (length log.now / entry_size) log.now) }
+    ensures within { IfSome result (λ i. entry_size * i < length log.now) }
 {
-    &trailer[0..COUNT] == &MARK[..]
-}
-
-// Whether octets are the trailer of a log that lies behind the file's start, with so many octets before it.
-fn is_trailer(trailer: &[u8], before: usize) -> bool
-    requires { length trailer.now ≡ 8 }
-    ensures { result ≡ is_trailer trailer.now before }
-{
-    let count = number_at(trailer, COUNT);
-    let distance = number_at(trailer, DISTANCE);
-    has_mark(trailer) && count <= MOST && distance == ENTRY * count && distance <= before
-}
-
-// The start of the first that is no entry, of so many from a place on.
-fn wrong_entry(file: &[u8], start: usize, count: usize) -> Option<usize>
-    requires { start + 17 * count ≤ length file.now }
-    ensures { result ≡ wrong_from (entries_in count (drop start file.now)) start }
-{
-    let mut at = start;
-    for _ in 0..count {
-        if !is_entry(&file[at..at + ENTRY]) {
-            return Some(at);
-        }
-        at += ENTRY;
-    }
-    None
+    let (entries, _) = log.as_chunks::<ENTRY>();
+    entries.iter().position(|entry| !is_entry(entry))
 }

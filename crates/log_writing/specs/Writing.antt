@@ -1,7 +1,7 @@
 -- What an open log means, and what closing makes of it.
 use Rattle.std.specs.Prelude.{ℕ, ◌-◌, ◌*◌, cond, List, [], length, nat_le}
 use Rattle.std.specs.Borrow.{GName}
-use Rattle.log_format.specs.Format.{log_of, places_in, trailer_of}
+use Rattle.log_format.specs.Format.{entry_size, log_of, places_in, trailer_of, trailer_size}
 use Rattle.log_format.specs.Reading.{frames_in}
 use Rattle.log_writing.specs.Overwriting.{overwritten}
 use Rattle.log_writing.specs.declared.open.OpenLog.{OpenLog}
@@ -24,8 +24,8 @@ open_free l = places_in (length (open_octets l)) - l.count
 
 -- What octets hold after a log of so many frames was closed in them: the trailer stands behind the last entry. Under 8 octets closing writes nothing.
 abbrev pub closing : ℕ → List ℕ → List ℕ
-closing count octets = cond (nat_le 8 (length octets)) (overwritten (17 * count) (trailer_of count) octets) octets
+closing count octets = cond (nat_le trailer_size (length octets)) (overwritten (entry_size * count) (trailer_of count) octets) octets
 
 -- The log itself, closed in so many octets: under 8 there is none.
 abbrev pub log_in : ℕ → List (List ℕ) → List ℕ
-log_in octets frames = cond (nat_le 8 octets) (log_of frames) []
+log_in octets frames = cond (nat_le trailer_size octets) (log_of frames) []

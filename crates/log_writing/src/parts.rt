@@ -1,7 +1,7 @@
 // What is written of a log: an entry, and the trailer.
-ghost use Rattle.std.specs.Prelude.{◌≡◌, ◌+◌, ◌*◌, ◌/◌, ◌%◌, ◌≤◌, length};
+ghost use Rattle.std.specs.Prelude.{◌≡◌, ◌+◌, ◌≤◌, length};
 ghost use Rattle.vocabulary.specs.Octets.{octets_of};
-ghost use Rattle.log_format.specs.Format.{entry_of, trailer_of};
+ghost use Rattle.log_format.specs.Format.{entry_of, most_frames, trailer_of};
 ghost use Rattle.log_writing.specs.Overwriting.{overwritten};
 
 use log_format::{ENTRY, MARK, TRAILER};
@@ -12,12 +12,10 @@ pub(crate) fn entry_of(frame: &Frame) -> [u8; ENTRY]
     ensures { result ≡ entry_of (octets_of frame.now) }
 {
     let octets = frame.as_slice();
-    let mut written = [0u8; ENTRY];
-    written[0] = octets.len() as u8;
-    for (i, x) in octets.iter().enumerate() {
-        written[i + 1] = *x;
-    }
-    written
+    let mut entry = [0; ENTRY];
+    entry[0] = octets.len() as u8;
+    write_at(&mut entry, 1, octets);
+    entry
 }
 
 // Writes some octets over those from a place on.
@@ -28,25 +26,19 @@ pub(crate) fn write_at(octets: &mut [u8], at: usize, part: &[u8])
     octets[at..at + part.len()].copy_from_slice(part);
 }
 
-// The high and the low octet of a number.
-fn two_octets(n: u16) -> (u8, u8)
-    ensures { result ≡ (n / 256, n % 256) }
-{
-    ((n / 256) as u8, (n % 256) as u8)
-}
-
 // The trailer behind so many entries.
 pub(crate) fn trailer_of(count: u16) -> [u8; TRAILER]
-    requires { count ≤ 3840 }
+    requires { count ≤ most_frames }
     ensures { result ≡ trailer_of count }
 {
-    let (count_high, count_low) = two_octets(count);
-    let (distance_high, distance_low) = two_octets(ENTRY as u16 * count);
+    let [mark0, mark1, mark2, mark3] = MARK;
+    let [count_high, count_low] = count.to_be_bytes();
+    let [distance_high, distance_low] = (ENTRY as u16 * count).to_be_bytes();
     [
-        MARK[0],
-        MARK[1],
-        MARK[2],
-        MARK[3],
+        mark0,
+        mark1,
+        mark2,
+        mark3,
         count_high,
         count_low,
         distance_high,

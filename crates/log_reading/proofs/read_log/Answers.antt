@@ -1,36 +1,35 @@
-use Rattle.std.proofs.Common.{ℕ, ◌<◌, get_or, Err, refl, ap, ◌∙◌, arith}
-use Rattle.log_reading.proofs.Files.{at_end, granted, no_trailer, same_octets, wrong_entry}
+use Rattle.std.proofs.Common.{ℕ, ◌<◌, ◌-◌, ◌*◌, ◌≡◌, ◌+◌, ◌++◌, get_or, length, take, drop, Ok, Err, sym, ap, ◌∙◌, arith, rules}
+use Rattle.std.proofs.lemmas.List.{take_rest}
+use Rattle.log_format.specs.Format.{log_of}
+use Rattle.log_format.specs.Reading.{frames_of_log}
+use Rattle.log_reading.proofs.Files.{at_end, granted, same, wrong_entry}
 use Rattle.log_reading.proofs.read_log.Goals as goal
 
-pub returns-then-not-is_trailer : goal.returns-then-not-is_trailer
-returns-then-not-is_trailer c =
-    record {
-      answer = ap Err c.no_log-then-not-is_trailer.ensures ∙ no_trailer c.args.file.now c.if-end-lt-TRAILER.false c.if-not-is_trailer.ensures;
-      log = tt;
-    }
+pub returns-in-Some-clause-answer : goal.returns-in-Some-clause-answer
+returns-in-Some-clause-answer c =
+    let b = c.in_ok-before in
+    let n = c.in_ok-count.count in
+    let start = length b.before.now - 17 * n in
+    ap Err c.no_log-in-Some.ensures
+    ∙ wrong_entry c.args.file.now b.trailer.now (length b.before.now) n (search rules) (search rules) (search rules) _ (take_rest c.args.file.now start) c.wrong_entry.result c.wrong_entry.ensures.first c.in-Some.place c.in-Some.is
 
-pub returns-in-Some : goal.returns-in-Some
-returns-in-Some c =
-    record {
-      answer = ap Err c.no_log-in-Some.ensures
-          ∙ wrong_entry c.args.file.now c.if-end-lt-TRAILER.false c.if-not-is_trailer.ensures c.number_at-count.result c.number_at.result c.number_at-count.ensures c.number_at.ensures c.in-Some.place c.in-Some.ensures;
-      log = tt;
-    }
-
-pub returns : goal.returns
-returns c =
+pub returns-in-None : goal.returns-in-None
+returns-in-None c =
+    let b = c.in_ok-before in
+    let n = c.in_ok-count.count in
+    let start = length b.before.now - 17 * n in
     let file = c.args.file.now in
-    let long = c.if-end-lt-TRAILER.false in
-    let good = c.if-not-is_trailer.ensures in
-    let n = c.number_at-count in
-    let d = c.number_at in
-    let right = c.in_default.ensures in
+    let log = take (length file - start) (drop start file) in
     let small : (i : ℕ) → get_or file i 0 < 256 = λ i. omega (arith, c.type_inv.file i) in
+    let t = length b.before.now in
+    let size : t + 8 ≡ length file = search rules in
+    let e = c.new.ensures in
+    let r = c.wrong_entry in
     record {
-      answer = granted file long good n.result d.result n.ensures d.ensures right;
+      answer = ap (λ os. Ok (frames_of_log os)) e.log ∙ granted file b.trailer.now t n size (search rules) (search rules) log (take_rest file start) r.result r.ensures.first c.in-None.is small;
       log = record {
-        inside = refl;
-        last = at_end file long good n.result d.result n.ensures d.ensures right;
-        same = same_octets file long good n.result d.result n.ensures d.ensures right small;
+        inside = e.octets;
+        last = ap (λ os. take (length file - length os) file ++ os) e.log ∙ at_end file b.trailer.now t n size (search rules) (search rules) log (take_rest file start) r.result r.ensures.first c.in-None.is small;
+        same = e.log ∙ same file b.trailer.now t n size (search rules) (search rules) log (take_rest file start) r.result r.ensures.first c.in-None.is small ∙ ap (λ os. log_of (frames_of_log os)) (sym e.log);
       };
     }

@@ -1,8 +1,7 @@
-ghost use Rattle.std.specs.Prelude.{◌≡◌, ℕ, ◌+◌, ◌-◌, ◌*◌, ◌<◌, ◌≤◌, List, [], ◌∷◌, ◌++◌, length, is_ok, if◌then◌else◌, Ok};
-ghost use Rattle.vocabulary.specs.Octets.{octets_of};
+ghost use Rattle.std.specs.Prelude.{◌≡◌, ℕ, ◌+◌, ◌-◌, ◌*◌, ◌≤◌, List, [], ◌∷◌, ◌++◌, length, is_ok, if◌then◌else◌, Ok};
 ghost use Rattle.carrier.specs.Frames.{put_answer};
 ghost use Rattle.log_format.specs.Closed.{closed_frames, closed_in, closed_octets};
-ghost use Rattle.log_format.specs.Format.{entry_of, places_in};
+ghost use Rattle.log_format.specs.Format.{entry_of, entry_size, places_in, trailer_size};
 ghost use Rattle.log_format.specs.Reading.{read_log};
 ghost use Rattle.log_writing.specs.Overwriting.{overwritten};
 ghost use Rattle.log_writing.specs.Writing.{closing, log_in, open_frames, open_free, open_loan, open_octets};
@@ -12,7 +11,7 @@ use crate::parts::{entry_of, trailer_of, write_at};
 use carrier::Carrier;
 use carrier::frames::{full_fault, to_frame};
 use log_format::closed::ClosedLog;
-use log_format::{ENTRY, TRAILER, read_entry};
+use log_format::{ENTRY, TRAILER, places_in, read_entry};
 use vocabulary::fault::Fault;
 use vocabulary::octets::Frame;
 
@@ -33,40 +32,16 @@ impl<'a> OpenLog<'a> {
         ensures frames { closed_frames result ≡ open_frames self.entry }
         ensures octets { closed_in result ≡ closing (length (open_frames self.entry)) (open_octets self.entry) }
         ensures log { closed_octets result ≡ log_in (length (open_octets self.entry)) (open_frames self.entry) }
-        ensures reads { (front : List ℕ) → 8 ≤ length (open_octets self.entry) → read_log (front ++ closed_octets result) ≡ Ok (open_frames self.entry) }
+        ensures reads { (front : List ℕ) → trailer_size ≤ length (open_octets self.entry) → read_log (front ++ closed_octets result) ≡ Ok (open_frames self.entry) }
     {
         let OpenLog { octets, count } = self;
         if octets.len() < TRAILER {
-            let octets: &'a [u8] = octets;
-            return ClosedLog {
-                octets,
-                log: &octets[0..0],
-                count,
-            };
+            return ClosedLog::new(octets, &[]);
         }
         let at = ENTRY * count;
         write_at(octets, at, &trailer_of(count as u16));
         let octets: &'a [u8] = octets;
-        ClosedLog {
-            octets,
-            log: &octets[0..at + TRAILER],
-            count,
-        }
-    }
-
-    // Writes a frame's entry behind the last.
-    fn append(&mut self, frame: &Frame)
-        requires { self.old.count < places_in (length (open_octets self.old)) }
-        ensures count { self.new.count ≡ self.old.count + 1 }
-        ensures octets { open_octets self.new ≡ overwritten (17 * self.old.count) (entry_of (octets_of frame.now)) (open_octets self.old) }
-        ensures lender { open_loan self.new ≡ open_loan self.old }
-    {
-        let at = ENTRY * self.count;
-        let written = entry_of(frame);
-        for (i, x) in written.iter().enumerate() {
-            self.octets[at + i] = *x;
-        }
-        self.count += 1;
+        ClosedLog::new(octets, &octets[..at + TRAILER])
     }
 }
 
@@ -79,30 +54,33 @@ impl<'a> Carrier for OpenLog<'a> {
         ensures answer { result ≡ put_answer frame.now (open_free self.old) }
         ensures frames { open_frames self.new ≡ (if is_ok result then open_frames self.old ++ (frame.now ∷ []) else open_frames self.old) }
         ensures places { open_free self.new ≡ (if is_ok result then open_free self.old - 1 else open_free self.old) }
-        ensures octets { open_octets self.new ≡ (if is_ok result then overwritten (17 * length (open_frames self.old)) (entry_of frame.now) (open_octets self.old) else open_octets self.old) }
+        ensures octets { open_octets self.new ≡ (if is_ok result then overwritten (entry_size * length (open_frames self.old)) (entry_of frame.now) (open_octets self.old) else open_octets self.old) }
         ensures lender { open_loan self.new ≡ open_loan self.old }
     {
         let frame = to_frame(frame)?;
-        if self.is_full() {
+        if self.places() == 0 {
             return Err(full_fault());
         }
-        self.append(&frame);
+        write_at(self.octets, ENTRY * self.count, &entry_of(&frame));
+        self.count += 1;
         Ok(())
     }
 
+    #[tactic(auto, using(crate::proofs::Puts::open_count))]
     fn count(&self) -> usize {
-        self.entries()
+        self.count
     }
 
     fn places(&self) -> usize {
-        self.free()
+        places_in(self.octets.len()) - self.count
     }
 
+    #[tactic(auto, using(crate::proofs::Puts::look_past, crate::proofs::Puts::look_at))]
     fn look(&self, place: usize) -> Option<Frame> {
         if place >= self.count {
             return None;
         }
-        let at = self.entry_start(place);
+        let at = ENTRY * place;
         read_entry(&self.octets[at..at + ENTRY])
     }
 }
