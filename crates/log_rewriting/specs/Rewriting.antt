@@ -3,11 +3,12 @@ use Rattle.std.specs.Prelude.{◌≡◌, ℕ, ◌+◌, ◌-◌, ◌*◌, cond, L
 use Rattle.vocabulary.specs.declared.fault.Fault.{Fault}
 use Rattle.carrier.specs.Frames.{full_fault}
 use Rattle.log_format.specs.Closed.{closed_in, closed_octets}
+use Rattle.log_format.specs.Format.{entry_size, trailer_size}
 use Rattle.log_format.specs.declared.closed.ClosedLog.{ClosedLog}
 
 -- Frames that are written into so many octets: granted exactly where the log of them has room.
 abbrev pub into_octets : ℕ → Result (List (List ℕ)) Fault → Result (List (List ℕ)) Fault
-into_octets octets (Ok frames) = cond (nat_le (17 * length frames + 8) octets) (Ok frames) (Err full_fault)
+into_octets octets (Ok frames) = cond (nat_le (entry_size * length frames + trailer_size) octets) (Ok frames) (Err full_fault)
 into_octets octets (Err fault) = Err fault
 
 -- A log that ends a file, written again over octets: it is the file's last octets, and the octets behind it stay.

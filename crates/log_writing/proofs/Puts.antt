@@ -59,6 +59,12 @@ take_over at part os h = take_at (take at os) (part ++ drop (at + length part) o
 pub drop_over : (at : ℕ) (part os : List ℕ) → at ≤ length os → drop at (overwritten at part os) ≡ part ++ drop (at + length part) os
 drop_over at part os h = drop_at (take at os) (part ++ drop (at + length part) os) at (length-take-le at os h)
 
+pub drop_past : (at : ℕ) (part os : List ℕ) → at + length part ≤ length os → drop (at + length part) (overwritten at part os) ≡ drop (at + length part) os
+drop_past at part os h =
+    let rest : List ℕ = drop (at + length part) os in
+    let n : length (take at os ++ part) ≡ at + length part = length-append (take at os) part ∙ omega (arith, length-take-le at os (omega arith)) in
+    ap (drop (at + length part)) (sym (append_assoc (take at os) part rest)) ∙ drop_at (take at os ++ part) rest (at + length part) n
+
 pub length_over : (at : ℕ) (part os : List ℕ) → at + length part ≤ length os → length (overwritten at part os) ≡ length os
 length_over at part os h = grind (arith, common_steps)
 

@@ -6,10 +6,9 @@ use Rattle.log_rewriting.proofs.put_all.Given as goal
 -- what is put and what is still to be put are all frames; there are places for them; nothing is written behind
 abbrev pub invariant-loop-frame : goal.invariant-loop-frame
 invariant-loop-frame l =
-    (open_frames l.into ++ to_play l.frames ≡ open_frames l.initial.into ++ to_play l.initial.frames)
-    × (length (to_play l.frames) ≤ open_free l.into)
-    × (length (open_octets l.into) ≡ length (open_octets l.initial.into))
-    × (drop (17 * length (open_frames l.into)) (open_octets l.into) ≡ drop (17 * length (open_frames l.into)) (open_octets l.initial.into))
-
-abbrev pub decreases-loop-frame : goal.decreases-loop-frame
-decreases-loop-frame l = length (to_play l.frames)
+    record {
+      frames : open_frames l.into ++ to_play l.frame-iterator ≡ open_frames l.initial.into ++ to_play l.fn.frames;
+      places : length (to_play l.frame-iterator) ≤ open_free l.into;
+      size : length (open_octets l.into) ≡ length (open_octets l.initial.into);
+      behind : drop (17 * length (open_frames l.into)) (open_octets l.into) ≡ drop (17 * length (open_frames l.into)) (open_octets l.initial.into);
+    }
