@@ -54,5 +54,5 @@ pub fn read_entry(octets: &[u8]) -> Option<Frame>
     if !is_blank(fill) {
         return None;
     }
-    Frame::new(frame)
+    Frame::try_from(frame).ok()
 }

@@ -40,6 +40,6 @@ fn put_all(into: &mut OpenLog<'_>, frames: Playing<'_>)
     ensures behind { drop (entry_size * length (open_frames into.new)) (open_octets into.new) ≡ drop (entry_size * length (open_frames into.new)) (open_octets into.old) }
 {
     for frame in frames {
-        let _ = into.put(frame.as_slice());
+        into.put(frame.as_slice()).unwrap();
     }
 }
