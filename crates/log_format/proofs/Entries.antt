@@ -1,14 +1,14 @@
 -- Entries: what is written is read, and what is read was written so.
-use Rattle.std.proofs.Common.{◌≡◌, ℕ, zero, suc, ◌+◌, ◌*◌, ◌<◌, true, not, List, [], ◌∷◌, ◌++◌, map, length, take, drop, replicate, None, sym, refl, ap, ◌∙◌, append_assoc, arith, take-add}
-use Rattle.std.specs.List.{flat_map, list_all, position, slice_get}
+use Rattle.std.proofs.Common.{◌≡◌, ℕ, zero, suc, ◌+◌, ◌*◌, true, not, List, [], ◌∷◌, ◌++◌, map, length, take, drop, replicate, None, sym, refl, ap, ◌∙◌, append_assoc, arith, take-add}
+use Rattle.std.specs.List.{flat_map, list_all, position}
 use Rattle.std.specs.Option.{option_map}
 use Rattle.std.proofs.lemmas.Grind.{common_steps}
-use Rattle.std.proofs.lemmas.List.{drop_at, drop-drop, length-map, take-append-drop, take_at}
+use Rattle.std.proofs.lemmas.List.{drop_at, length-map, take-append-drop, take_at}
 use Rattle.std.proofs.lemmas.Bool.{and_parts}
 use Rattle.std.proofs.lemmas.Bool.Decides.{nat_tests}
 use Rattle.vocabulary.specs.Octets.{in_size}
 use Rattle.log_format.specs.Format.{entry_of}
-use Rattle.log_format.specs.Reading.{blank, entries_in, frame_in, frames_in, frames_up_to, is_entry, read_entry, wrong_from}
+use Rattle.log_format.specs.Reading.{blank, entries_in, frame_in, frames_in, frames_up_to, is_entry, wrong_from}
 
 -- Fill.
 blank_fill : (n : ℕ) → blank (replicate n 0) ≡ true
@@ -81,14 +81,6 @@ length_frames n os = length-map (entries_in n os) frame_in ∙ length_entries n 
 pub frames_right : (n : ℕ) (os : List ℕ) → AllEntries (entries_in n os) → frames_up_to n os ≡ frames_in n os
 frames_right zero os h = refl
 frames_right (suc n) os h = grind (arith, frames_right n (drop 17 os))
-
--- The entry at a place, counted from 0.
-pub read_at : (n i : ℕ) (os : List ℕ) → AllEntries (entries_in n os) → i < n → read_entry (take 17 (drop (17 * i) os)) ≡ slice_get (frames_in n os) i
-read_at zero i os h l = absurd (omega arith)
-read_at (suc n) zero os h l = grind (arith)
-read_at (suc n) (suc i) os h l =
-    let f : 17 + 17 * i ≡ 17 * suc i = omega arith in
-    ap (λ k. read_entry (take 17 (drop k os))) (sym f) ∙ ap (λ ys. read_entry (take 17 ys)) (sym (drop-drop (17 * i) 17 os)) ∙ read_at n i (drop 17 os) (and_parts _ _ h).1 (omega arith)
 
 -- Entries that are written one behind the other are read so.
 pub entries_joined : (fs : List (List ℕ)) (ys : List ℕ) → AllFrames fs → entries_in (length fs) (flat_map entry_of fs ++ ys) ≡ map entry_of fs

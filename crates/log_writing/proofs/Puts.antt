@@ -1,17 +1,16 @@
 -- One entry more, and the trailer behind the last.
-use Rattle.std.proofs.Common.{◌≡◌, ℕ, zero, suc, ◌+◌, ◌-◌, ◌*◌, ◌<◌, ◌≤◌, true, List, [], ◌∷◌, ◌++◌, map, length, take, drop, sym, ap, ◌∙◌, append_assoc, arith, length-append, length-take, None, refl}
+use Rattle.std.proofs.Common.{◌≡◌, ℕ, zero, suc, ◌+◌, ◌*◌, ◌<◌, ◌≤◌, true, List, [], ◌∷◌, ◌++◌, map, length, get_or, take, drop, sym, ap, ◌∙◌, append_assoc, arith, length-append, length-take, refl}
 use Rattle.std.specs.List.{flat_map, list_all, slice_get}
 use Rattle.std.proofs.lemmas.Grind.{common_steps}
 use Rattle.std.proofs.lemmas.List.{drop_at, drop-drop, drop-take, length-take-le, map_push, take_at, take-take}
 use Rattle.std.proofs.lemmas.List.Recursion.{and_push}
-use Rattle.std.proofs.lemmas.Option.{slice_get_past}
-use Rattle.std.proofs.lemmas.Bool.{le-leb}
+use Rattle.std.proofs.lemmas.Bool.{and_parts, le-leb}
 use Rattle.std.proofs.lemmas.Bool.Decides.{nat_tests}
 use Rattle.vocabulary.specs.declared.octets.Octets.{Octets}
 use Rattle.vocabulary.specs.Octets.{in_size, octets_of}
 use Rattle.log_format.specs.Format.{entry_of, log_of, trailer_of}
 use Rattle.log_format.specs.Reading.{entries_in, frame_in, frames_in, is_entry, read_entry}
-use Rattle.log_format.proofs.Entries.{AllEntries, entry_right, frame_entry, joined_entries, length_entry, length_frames, read_at}
+use Rattle.log_format.proofs.Entries.{AllEntries, entry_right, frame_entry, joined_entries, length_entry, length_frames}
 use Rattle.log_writing.specs.Overwriting.{overwritten}
 use Rattle.log_writing.specs.Writing.{closing, open_frames, open_octets}
 use Rattle.log_writing.specs.declared.open.OpenLog.{OpenLog}
@@ -24,13 +23,16 @@ frame_size_lem f = let n = length-take f.octets.len f.octets.items in grind (ari
 pub open_count : (l : OpenLog) → length (open_frames l) ≡ l.count
 open_count l = length_frames l.count (open_octets l)
 
-pub look_past : (l : OpenLog) (i : ℕ) → l.count ≤ i → slice_get (open_frames l) i ≡ None
-look_past l i h = slice_get_past (open_frames l) i (omega (arith, open_count l))
+-- The first n of more entries, and the frame in the one at a place.
+pub first_entries : (m n : ℕ) (os : List ℕ) → n ≤ m → take n (entries_in m os) ≡ entries_in n os
+first_entries m zero os h = refl
+first_entries zero (suc n) os h = absurd (omega arith)
+first_entries (suc m) (suc n) os h = ap (λ es. take 17 os ∷ es) (first_entries m n (drop 17 os) (omega arith))
 
-pub look_at : (l : OpenLog) (i : ℕ) → i < l.count → read_entry (take (17 * i + 17 - 17 * i) (drop (17 * i) (open_octets l))) ≡ slice_get (open_frames l) i
-look_at l i h =
-    let n : 17 * i + 17 - 17 * i ≡ 17 = omega arith in
-    ap (λ k. read_entry (take k (drop (17 * i) (open_octets l)))) n ∙ read_at l.count i (open_octets l) l.right h
+pub frame_at : (es : List (List ℕ)) (i : ℕ) (d : List ℕ) → AllEntries es → i < length es → read_entry (get_or es i d) ≡ slice_get (map frame_in es) i
+frame_at [] i d h l = absurd (omega arith)
+frame_at (e ∷ es) zero d h l = grind arith
+frame_at (e ∷ es) (suc i) d h l = frame_at es i d (and_parts (is_entry e) (list_all is_entry es) h).1 (omega arith)
 
 -- Octets that begin with the same n entries have them.
 pub entries_front : (n : ℕ) (os ys : List ℕ) → take (17 * n) os ≡ take (17 * n) ys → entries_in n os ≡ entries_in n ys

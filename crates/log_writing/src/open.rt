@@ -7,6 +7,7 @@ ghost use Rattle.log_format.specs.Reading.{entries_in, is_entry};
 pub mod ops;
 
 // It has `count` entries, the first at octet 0 of the lent ones. Whoever has one has entries that are right.
+// The count stands beside the octets because they are lent and filled one entry after the other.
 #[derive(Drop)]
 pub struct OpenLog<'a> {
     octets: &'a mut [u8],

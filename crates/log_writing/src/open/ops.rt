@@ -2,7 +2,7 @@ ghost use Rattle.std.specs.Prelude.{◌≡◌, ℕ, ◌+◌, ◌-◌, ◌*◌, �
 ghost use Rattle.carrier.specs.Frames.{put_answer};
 ghost use Rattle.log_format.specs.Closed.{closed_frames, closed_in, closed_octets};
 ghost use Rattle.log_format.specs.Format.{entry_of, entry_size, places_in, trailer_size};
-ghost use Rattle.log_format.specs.Reading.{read_log};
+ghost use Rattle.log_format.specs.Reading.{entries_in, read_log};
 ghost use Rattle.log_writing.specs.Overwriting.{overwritten};
 ghost use Rattle.log_writing.specs.Writing.{closing, log_in, open_frames, open_free, open_loan, open_octets};
 
@@ -43,6 +43,15 @@ impl<'a> OpenLog<'a> {
         let octets: &'a [u8] = octets;
         ClosedLog::new(octets, &octets[..at + TRAILER])
     }
+
+    // The entries.
+    #[tactic(auto, using(crate::proofs::Puts::first_entries))]
+    fn entries(&self) -> &[[u8; ENTRY]]
+        ensures { result.now ≡ entries_in self.now.count (open_octets self.now) }
+    {
+        let (entries, _) = self.octets.as_chunks::<ENTRY>();
+        &entries[..self.count]
+    }
 }
 
 impl<'a> Carrier for OpenLog<'a> {
@@ -75,12 +84,8 @@ impl<'a> Carrier for OpenLog<'a> {
         places_in(self.octets.len()) - self.count
     }
 
-    #[tactic(auto, using(crate::proofs::Puts::look_past, crate::proofs::Puts::look_at))]
+    #[tactic(auto, using(crate::proofs::Puts::frame_at))]
     fn look(&self, place: usize) -> Option<Frame> {
-        if place >= self.count {
-            return None;
-        }
-        let at = ENTRY * place;
-        read_entry(&self.octets[at..at + ENTRY])
+        read_entry(self.entries().get(place)?)
     }
 }
