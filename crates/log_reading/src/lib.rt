@@ -37,16 +37,7 @@ fn no_log(place: usize) -> Fault
 fn count_in(trailer: &[u8; TRAILER], before: usize) -> Option<usize>
     ensures { result ≡ (if is_trailer trailer.now before then Some (count_in trailer.now) else None) }
 {
-    let [
-        _,
-        _,
-        _,
-        _,
-        count_high,
-        count_low,
-        distance_high,
-        distance_low,
-    ] = *trailer;
+    let [.., count_high, count_low, distance_high, distance_low] = *trailer;
     let count = usize::from(u16::from_be_bytes([count_high, count_low]));
     let distance = usize::from(u16::from_be_bytes([distance_high, distance_low]));
     let right = trailer.starts_with(&MARK)
