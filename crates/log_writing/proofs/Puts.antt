@@ -1,8 +1,8 @@
 -- One entry more, and the trailer behind the last.
-use Rattle.std.proofs.Common.{◌≡◌, ℕ, zero, suc, ◌+◌, ◌*◌, ◌<◌, ◌≤◌, true, List, [], ◌∷◌, ◌++◌, map, length, get_or, take, drop, sym, ap, ◌∙◌, append_assoc, arith, length-append, length-take, refl}
+use Rattle.std.proofs.Common.{◌≡◌, ℕ, zero, suc, ◌+◌, ◌*◌, ◌<◌, ◌≤◌, true, List, [], ◌∷◌, ◌++◌, map, length, get_or, take, drop, sym, ap, ◌∙◌, append_assoc, arith, length-append, length-drop, length-take, refl}
 use Rattle.std.specs.List.{flat_map, list_all, slice_get}
 use Rattle.std.proofs.lemmas.Grind.{common_steps}
-use Rattle.std.proofs.lemmas.List.{drop_at, drop-drop, drop-take, length-take-le, map_push, take_at, take-take}
+use Rattle.std.proofs.lemmas.List.{drop_at, drop-append-le, drop-drop, drop-take, length-take-le, map_push, take_at}
 use Rattle.std.proofs.lemmas.List.Recursion.{and_push}
 use Rattle.std.proofs.lemmas.Bool.{and_parts, le-leb}
 use Rattle.std.proofs.lemmas.Bool.Decides.{nat_tests}
@@ -34,32 +34,16 @@ frame_at [] i d h l = absurd (omega arith)
 frame_at (e ∷ es) zero d h l = grind arith
 frame_at (e ∷ es) (suc i) d h l = frame_at es i d (and_parts (is_entry e) (list_all is_entry es) h).1 (omega arith)
 
--- Octets that begin with the same n entries have them.
-pub entries_front : (n : ℕ) (os ys : List ℕ) → take (17 * n) os ≡ take (17 * n) ys → entries_in n os ≡ entries_in n ys
-entries_front zero os ys h = refl
-entries_front (suc n) os ys h =
-    let f : 17 + 17 * n ≡ 17 * suc n = omega arith in
-    let l : 17 ≤ 17 + 17 * n = omega arith in
-    let e : take (17 + 17 * n) os ≡ take (17 + 17 * n) ys = ap (λ k. take k os) f ∙ h ∙ sym (ap (λ k. take k ys) f) in
-    let first : take 17 os ≡ take 17 ys = sym (take-take 17 (17 + 17 * n) os l) ∙ ap (take 17) e ∙ take-take 17 (17 + 17 * n) ys l in
-    let rest : take (17 * n) (drop 17 os) ≡ take (17 * n) (drop 17 ys) = sym (drop-take 17 (17 * n) os) ∙ ap (drop 17) e ∙ drop-take 17 (17 * n) ys in
-    ap (λ x. x ∷ entries_in n (drop 17 os)) first ∙ ap (λ es. take 17 ys ∷ es) (entries_front n (drop 17 os) (drop 17 ys) rest)
+-- What is written over octets leaves those before it and those behind it, and as many as there were.
+take_front : (k at : ℕ) (part os : List ℕ) → k + at ≤ length os → take k (overwritten (k + at) part os) ≡ take k os
+take_front k at part os h = grind (arith, common_steps)
 
--- One entry more at the end.
-entries_more : (n : ℕ) (os : List ℕ) → entries_in (n + 1) os ≡ entries_in n os ++ (take 17 (drop (17 * n) os) ∷ [])
-entries_more zero os = refl
-entries_more (suc n) os =
-    let e : suc n + 1 ≡ suc (n + 1) = omega arith in
-    let f : 17 + 17 * n ≡ 17 * suc n = omega arith in
-    ap (λ k. entries_in k os) e ∙ ap (λ es. take 17 os ∷ es) (entries_more n (drop 17 os))
-    ∙ ap (λ ys. take 17 os ∷ (entries_in n (drop 17 os) ++ (take 17 ys ∷ []))) (drop-drop (17 * n) 17 os ∙ ap (λ k. drop k os) f)
-
--- What is written over octets leaves those before it, and as many as there were.
-pub take_over : (at : ℕ) (part os : List ℕ) → at ≤ length os → take at (overwritten at part os) ≡ take at os
-take_over at part os h = take_at (take at os) (part ++ drop (at + length part) os) at (length-take-le at os h)
-
-pub drop_over : (at : ℕ) (part os : List ℕ) → at ≤ length os → drop at (overwritten at part os) ≡ part ++ drop (at + length part) os
-drop_over at part os h = drop_at (take at os) (part ++ drop (at + length part) os) at (length-take-le at os h)
+drop_front : (k at : ℕ) (part os : List ℕ) → k + at ≤ length os → drop k (overwritten (k + at) part os) ≡ overwritten at part (drop k os)
+drop_front k at part os h =
+    let l : k ≤ length (take (k + at) os) = omega (arith, length-take-le (k + at) os h) in
+    let e : k + at + length part ≡ k + (at + length part) = omega arith in
+    drop-append-le k (take (k + at) os) (part ++ drop (k + at + length part) os) l ∙ ap (λ xs. xs ++ (part ++ drop (k + at + length part) os)) (drop-take k at os)
+    ∙ ap (λ ys. take at (drop k os) ++ (part ++ ys)) (ap (λ m. drop m os) e ∙ sym (drop-drop (at + length part) k os))
 
 pub drop_past : (at : ℕ) (part os : List ℕ) → at + length part ≤ length os → drop (at + length part) (overwritten at part os) ≡ drop (at + length part) os
 drop_past at part os h =
@@ -70,21 +54,24 @@ drop_past at part os h =
 pub length_over : (at : ℕ) (part os : List ℕ) → at + length part ≤ length os → length (overwritten at part os) ≡ length os
 length_over at part os h = grind (arith, common_steps)
 
--- A frame's entry behind n right ones.
-module _ (n : ℕ) (os f : List ℕ) (sized : in_size 16 f ≡ true) (room : 17 * n + 17 ≤ length os) where
-  entries_put : entries_in (n + 1) (overwritten (17 * n) (entry_of f) os) ≡ entries_in n os ++ (entry_of f ∷ [])
-  entries_put =
-      let new = overwritten (17 * n) (entry_of f) os in
-      let l : 17 * n ≤ length os = omega arith in
-      let same = entries_front n new os (take_over (17 * n) (entry_of f) os l) in
-      let here : take 17 (drop (17 * n) new) ≡ entry_of f = ap (take 17) (drop_over (17 * n) (entry_of f) os l) ∙ take_at (entry_of f) (drop (17 * n + length (entry_of f)) os) 17 (length_entry f sized) in
-      entries_more n new ∙ ap (λ es. es ++ (take 17 (drop (17 * n) new) ∷ [])) same ∙ ap (λ e. entries_in n os ++ (e ∷ [])) here
+-- A frame's entry behind n others.
+entries_put : (n : ℕ) (os f : List ℕ) → in_size 16 f ≡ true → 17 * n + 17 ≤ length os → entries_in (n + 1) (overwritten (17 * n) (entry_of f) os) ≡ entries_in n os ++ (entry_of f ∷ [])
+entries_put zero os f sized room = ap (λ e. e ∷ []) (take_at (entry_of f) (drop (17 * 0 + length (entry_of f)) os) 17 (length_entry f sized))
+entries_put (suc n) os f sized room =
+    let e : suc n + 1 ≡ suc (n + 1) = omega arith in
+    let k : 17 * suc n ≡ 17 + 17 * n = omega arith in
+    let fits : 17 + 17 * n ≤ length os = omega arith in
+    ap (λ m. entries_in m (overwritten (17 * suc n) (entry_of f) os)) e ∙ ap (λ at. entries_in (suc (n + 1)) (overwritten at (entry_of f) os)) k
+    ∙ ap (λ x. x ∷ entries_in (n + 1) (drop 17 (overwritten (17 + 17 * n) (entry_of f) os))) (take_front 17 (17 * n) (entry_of f) os fits)
+    ∙ ap (λ ys. take 17 os ∷ entries_in (n + 1) ys) (drop_front 17 (17 * n) (entry_of f) os fits)
+    ∙ ap (λ es. take 17 os ∷ es) (entries_put n (drop 17 os) f sized (omega (arith, length-drop 17 os)))
 
+module _ (n : ℕ) (os f : List ℕ) (sized : in_size 16 f ≡ true) (room : 17 * n + 17 ≤ length os) where
   pub frames_put : frames_in (n + 1) (overwritten (17 * n) (entry_of f) os) ≡ frames_in n os ++ (f ∷ [])
-  frames_put = ap (map frame_in) entries_put ∙ map_push frame_in (entries_in n os) (entry_of f) ∙ ap (λ g. frames_in n os ++ (g ∷ [])) (frame_entry f)
+  frames_put = ap (map frame_in) (entries_put n os f sized room) ∙ map_push frame_in (entries_in n os) (entry_of f) ∙ ap (λ g. frames_in n os ++ (g ∷ [])) (frame_entry f)
 
   pub right_put : AllEntries (entries_in n os) → AllEntries (entries_in (n + 1) (overwritten (17 * n) (entry_of f) os))
-  right_put h = rw (entries_put, and_push (list_all is_entry) is_entry refl (λ _ _. refl) (entries_in n os) (entry_of f), h) (entry_right f sized)
+  right_put h = rw (entries_put n os f sized room, and_push (list_all is_entry) is_entry refl (λ _ _. refl) (entries_in n os) (entry_of f), h) (entry_right f sized)
 
   pub length_put : length (overwritten (17 * n) (entry_of f) os) ≡ length os
   length_put = let e = length_entry f sized in length_over (17 * n) (entry_of f) os (omega arith)
