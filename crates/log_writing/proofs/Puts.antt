@@ -10,7 +10,8 @@ use Rattle.vocabulary.specs.declared.octets.Octets.{Octets}
 use Rattle.vocabulary.specs.Octets.{in_size, octets_of}
 use Rattle.log_format.specs.Format.{entry_of, log_of, trailer_of}
 use Rattle.log_format.specs.Reading.{entries_in, frame_in, frames_in, is_entry, read_entry}
-use Rattle.log_format.proofs.Entries.{AllEntries, entry_right, frame_entry, joined_entries, length_entry, length_frames}
+use Rattle.log_format.proofs.Entries.{AllEntries, AllFrames, frames_sized, entry_right, frame_entry, joined_entries, length_entry, length_frames}
+use Rattle.log_format.proofs.Laws.{frames_log, reads_back}
 use Rattle.log_writing.specs.Overwriting.{overwritten}
 use Rattle.log_writing.specs.Writing.{closing, open_frames, open_octets}
 use Rattle.log_writing.specs.declared.open.OpenLog.{OpenLog}
@@ -22,6 +23,9 @@ frame_size_lem f = let n = length-take f.octets.len f.octets.items in grind (ari
 -- What an open log counts, and its frame at a place.
 pub open_count : (l : OpenLog) → length (open_frames l) ≡ l.count
 open_count l = length_frames l.count (open_octets l)
+
+pub open_sized : (l : OpenLog) → AllFrames (open_frames l)
+open_sized l = frames_sized (entries_in l.count (open_octets l)) l.right
 
 -- The first n of more entries, and the frame in the one at a place.
 pub first_entries : (m n : ℕ) (os : List ℕ) → n ≤ m → take n (entries_in m os) ≡ entries_in n os
@@ -91,3 +95,8 @@ module _ (l : OpenLog) (new : List ℕ) (long : 8 ≤ length (open_octets l)) (s
 
   pub closed : new ≡ closing (length (open_frames l)) (open_octets l)
   closed = let n = length_frames l.count (open_octets l) in let t = le-leb 8 (length (open_octets l)) long in rw (n, t) stored
+
+-- What a put rests on, and what closing does.
+pub ruleset puts = (open_count, frames_put, right_put, length_put)
+
+pub ruleset closes = (open_count, open_sized, written, closed, frames_log, reads_back)

@@ -28,6 +28,7 @@ impl<'a> OpenLog<'a> {
 
     // Closes it: the trailer is written behind the last entry, unless there are too few octets for one.
     // The log, read behind any other octets, has the frames that were put into this one.
+    #[tactic(auto, using(crate::proofs::Puts::closes))]
     pub fn close(self) -> ClosedLog<'a>
         ensures frames { closed_frames result ≡ open_frames self.entry }
         ensures octets { closed_in result ≡ closing (length (open_frames self.entry)) (open_octets self.entry) }
@@ -59,6 +60,7 @@ impl<'a> Carrier for OpenLog<'a> {
 
     ghost free = { open_free };
 
+    #[tactic(auto, using(crate::proofs::Puts::puts))]
     fn put(&mut self, frame: &[u8]) -> Result<(), Fault>
         ensures answer { result ≡ put_answer frame.now (open_free self.old) }
         ensures frames { open_frames self.new ≡ (if is_ok result then open_frames self.old ++ (frame.now ∷ []) else open_frames self.old) }
