@@ -33,6 +33,7 @@ pub fn rewrite<'a>(file: &[u8], octets: &'a mut [u8]) -> Result<ClosedLog<'a>, F
 }
 
 // Puts all frames that are still to be played into a log that has the places.
+#[tactic(auto, using(crate::proofs::Steps::putting))]
 fn put_all(into: &mut OpenLog<'_>, frames: Playing<'_>)
     requires { length (to_play frames) ≤ open_free into.old }
     ensures frames { open_frames into.new ≡ open_frames into.old ++ to_play frames.entry }
