@@ -21,7 +21,7 @@ pub struct Playing<'a> {
 }
 
 impl<'a> ClosedLog<'a> {
-    // The log of these octets, which lies in those. Its frames are those of its entries.
+    // The log whose own octets are `log`, and which lies in `octets`. Its frames are those of its entries, up to the first that is none.
     pub fn new(octets: &'a [u8], log: &'a [u8]) -> ClosedLog<'a>
         ensures octets { closed_in result ≡ octets.now }
         ensures log { closed_octets result ≡ log.now }
