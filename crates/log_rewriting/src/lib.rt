@@ -10,7 +10,7 @@ ghost use Rattle.log_writing.specs.Writing.{open_frames, open_free, open_octets}
 ghost use Rattle.log_rewriting.specs.Rewriting.{Again, into_octets};
 
 use carrier::Carrier;
-use carrier::frames::full_fault;
+use carrier::frames::FULL;
 use log_format::closed::{ClosedLog, Playing};
 use log_reading::read_log;
 use log_writing::open::OpenLog;
@@ -25,7 +25,7 @@ pub fn rewrite<'a>(file: &[u8], octets: &'a mut [u8]) -> Result<ClosedLog<'a>, F
 {
     let log = read_log(file)?;
     if octets.len() < log.as_slice().len() {
-        return Err(full_fault());
+        return Err(FULL);
     }
     let mut open = OpenLog::new(octets);
     put_all(&mut open, log.play());

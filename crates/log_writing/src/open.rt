@@ -6,7 +6,7 @@ ghost use Rattle.log_format.specs.Reading.{entries_in, is_entry};
 
 use crate::parts::{entry_of, trailer_of, write_at};
 use carrier::Carrier;
-use carrier::frames::{full_fault, to_frame};
+use carrier::frames::{FULL, to_frame};
 use log_format::closed::ClosedLog;
 use log_format::{ENTRY, TRAILER, places_in, read_entry};
 use vocabulary::fault::Fault;
@@ -85,7 +85,7 @@ impl<'a> Carrier for OpenLog<'a> {
     {
         let frame = to_frame(frame)?;
         if self.places() == 0 {
-            return Err(full_fault());
+            return Err(FULL);
         }
         write_at(self.octets, ENTRY * self.count, &entry_of(&frame));
         self.count += 1;
