@@ -1,10 +1,10 @@
 -- The laws of bits and of the numbers that they write.
-use Rattle.std.proofs.Common.{◌≡◌, ℕ, zero, suc, ◌+◌, ◌-◌, ◌*◌, ◌/◌, ◌%◌, ◌^◌, ◌<◌, ◌≤◌, List, [], ◌∷◌, ◌++◌, length, get_or, take, drop, Some, sym, refl, ap, ◌∙◌, subst, ⊎_elim, append_assoc, append-nil, add-zero, add-suc, suc-add, pow-suc, zero-add, arith, length-append, length-drop, length-take-le, get_or-drop, take-take, drop-drop}
+use Rattle.std.proofs.Common.{◌≡◌, ℕ, zero, suc, ◌+◌, ◌-◌, ◌*◌, ◌/◌, ◌%◌, ◌^◌, ◌<◌, ◌≤◌, List, [], ◌∷◌, ◌++◌, length, get_or, take, drop, Some, sym, refl, ap, ◌∙◌, subst, ⊎_elim, append_assoc, append-nil, add-zero, add-suc, suc-add, pow-suc, zero-add, arith, pow_mono, length-append, length-drop, length-take-le, get_or-drop, take-take, drop-drop, drop-cons}
 use Rattle.std.proofs.str.Laws.{order}
-use Rattle.std.proofs.lemmas.List.{get_or_append_left, get_or-append_right, drop-take}
+use Rattle.std.proofs.lemmas.List.{get_or_append_left, get_or-append_right, get_or-take, drop-take}
 use Rattle.std.specs.Int.Digits.{number_from_digits, number_from_digits_after, AllBelowBase}
-use Rattle.std.proofs.lemmas.Int.Digits.{number_push, number_more}
-use Rattle.std.proofs.ByRecursion.{All-append}
+use Rattle.std.proofs.lemmas.Int.Digits.{number_push, number_more, number_lt, number_after_ge}
+use Rattle.std.proofs.ByRecursion.{All-append, All-take, All-drop}
 use Rattle.std.proofs.lemmas.Bool.{cond-true, cond_both, le-leb, leb-true}
 use Rattle.bits.specs.Bits.{field, bits_of, value_at, stretch, window_at}
 
@@ -141,3 +141,32 @@ window_shows s i n w =
 -- the numbers that a part of bits writes
 pub part_value : (bs : List ℕ) (start n i k : ℕ) → i + k ≤ n → value_at (take n (drop start bs)) i k ≡ value_at bs (start + i) k
 part_value bs start n i k l = ap (number_from_digits 2) (front (drop start bs) i k n l ∙ ap (take k) (drop-drop i start bs))
+
+-- bits that lie in octets
+module _ (s : List ℕ) (offset n : ℕ) (h : offset + n ≤ 8 * length s) where
+  pub length_lying : length (take n (drop offset (bits_of s))) ≡ n
+  length_lying = length-take-le n (drop offset (bits_of s)) (omega (arith, length-drop offset (bits_of s), length_bits_of s))
+
+  pub under_lying : AllBelowBase 2 (take n (drop offset (bits_of s)))
+  under_lying = All-take (λ d. d < 2) n (drop offset (bits_of s)) (All-drop (λ d. d < 2) offset (bits_of s) (under_bits_of s))
+
+  pub front_lying : (k : ℕ) → k ≤ n → take k (drop offset (bits_of s)) ≡ take k (take n (drop offset (bits_of s)))
+  front_lying k l = sym (take-take k n (drop offset (bits_of s)) l)
+
+  pub back_lying : (k q r : ℕ) → k ≤ n → 8 * q + r ≡ offset + k → take (n - k) (drop r (bits_of (drop q s))) ≡ drop k (take n (drop offset (bits_of s)))
+  back_lying k q r l e =
+      let m : k + (n - k) ≡ n = omega arith in
+      ap (λ x. take (n - k) (drop r x)) (bits_of_drop q s)
+      ∙ ap (take (n - k)) (drop-drop r (8 * q) (bits_of s) ∙ ap (λ i. drop i (bits_of s)) (e ∙ omega arith) ∙ sym (drop-drop k offset (bits_of s)))
+      ∙ sym (drop-take k (n - k) (drop offset (bits_of s)))
+      ∙ ap (λ j. drop k (take j (drop offset (bits_of s)))) m
+
+  pub first_lying : 1 ≤ n → take n (drop offset (bits_of s)) ≡ get_or (bits_of s) offset 0 ∷ drop 1 (take n (drop offset (bits_of s)))
+  first_lying l =
+      let bs = take n (drop offset (bits_of s)) in
+      let some : 0 < length bs = omega (arith, length_lying) in
+      drop-cons bs 0 0 some ∙ ap (λ b. b ∷ drop 1 bs) (get_or-take n (drop offset (bits_of s)) 0 0 (omega arith) ∙ get_or-drop offset (bits_of s) 0 0 ∙ ap (λ i. get_or (bits_of s) i 0) (add-zero offset))
+
+-- 16 bits write a number of 16 bits, and what is read so far is less
+pub narrow : (bs rest : List ℕ) (v b : ℕ) → AllBelowBase 2 bs → length bs ≤ 16 → number_from_digits_after 2 v (b ∷ rest) ≡ number_from_digits 2 bs → v * 2 + b < 2 ^ 16
+narrow bs rest v b u l e = omega (arith, number_lt 2 bs u, pow_mono {i = length bs} {j = 16} l, number_after_ge 2 (v * 2 + b) rest)

@@ -5,7 +5,9 @@ ghost use Rattle.std.specs.Prelude.{◌≡◌, ◌+◌, ◌-◌, ◌/◌, ◌%�
 ghost use Rattle.std.specs.Option.{option_map};
 ghost use Rattle.bits.specs.Bits.{bits_of, window_at};
 
-const WIDTH: usize = 8;
+pub mod bits;
+
+pub(crate) const WIDTH: usize = 8;
 
 const LAST: usize = 7;
 
@@ -44,7 +46,7 @@ fn reach(i: usize, n: usize) -> usize
 }
 
 // The octets from the one on that the bit i stands in, if all of the n bits from i on lie in the octets.
-pub fn window(octets: &[u8], i: usize, n: usize) -> Option<&[u8]>
+pub(crate) fn window(octets: &[u8], i: usize, n: usize) -> Option<&[u8]>
     ensures { option_map (λ x. x.now) result ≡ window_at octets.now i n }
 {
     let first = octet_of(i);

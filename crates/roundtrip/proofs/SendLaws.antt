@@ -7,7 +7,6 @@ use Rattle.vocabulary.specs.declared.fault.Layer.TheVariants as layer
 use Rattle.vocabulary.specs.declared.fault.Refusal.TheVariants as refusal
 use Rattle.wire.specs.Messages.{wrong_length}
 use Rattle.wire.specs.Packets.{Content}
-use Rattle.wire.specs.Walkers.{first}
 use Rattle.wire.proofs.WalkLaws.{not_read}
 use Rattle.writer.specs.Encoding.{encode, writable}
 use Rattle.writer.specs.Drafts.{Draft, octets_in, whole, padded, placed, extended, room, has_room, add_answer, added, message_of, finish_answer}
@@ -35,15 +34,6 @@ module _ (p : Content) (ps : List Content) (d : Draft) where
   refuses e q =
       ap (λ r. unless_refused r d.buffer (sent ps (added p d))) (sym q)
       ∙ ap (λ (x : Draft). record { answer = Err e; buffer = x.buffer }) (sym (decided_no (writable d.trip p) (has_room p d) _ _ e (extended d (encode d.trip p)) d q))
-
--- a list by its first element
-pub first_some : (l : List Content) (p : Content) → Some p ≡ first l → l ≡ p ∷ drop 1 l
-first_some [] p e = let z : ◌≡◌ {A = ℕ} 0 1 = cc in absurd (omega arith)
-first_some (x ∷ xs) p e = let same : x ≡ p = cc in ap (λ y. y ∷ xs) same
-
-pub first_none : (l : List Content) → None ≡ first l → l ≡ []
-first_none [] e = refl
-first_none (x ∷ xs) e = let z : ◌≡◌ {A = ℕ} 0 1 = cc in absurd (omega arith)
 
 pub length_octets_in : (n : ℕ) (bs : List ℕ) → length (octets_in n bs) ≡ n
 length_octets_in zero bs = refl

@@ -9,7 +9,7 @@ use Rattle.std.proofs.lemmas.Bool.{cond_both, cond-true, cond-false, and_parts, 
 use Rattle.vocabulary.specs.Trips.{taken}
 use Rattle.vocabulary.specs.declared.fault.Fault.{Fault}
 use Rattle.bits.specs.Bits.{field, bits_of}
-use Rattle.bits.proofs.BitLaws.{field_number, under_field, under_bits_of, length_bits_of, bits_of_drop}
+use Rattle.bits.proofs.BitLaws.{field_number, under_field, under_bits_of, under_lying, length_bits_of, bits_of_drop}
 use Rattle.wire.specs.Packets.{Content, content}
 use Rattle.wire.specs.Messages.{Reading, walked, body_bits, size_fault, unless, read_message}
 use Rattle.wire.specs.declared.packet.Packet.{Packet}
@@ -63,8 +63,7 @@ under_encode trip (packet.Request a) = under_packed 13 25 (field 4 a) (under_fie
 under_encode trip (packet.Order a) = under_packed 14 25 (field 4 a) (under_field 4 a)
 under_encode trip (packet.Report a) = under_packed 15 25 (field 4 a) (under_field 4 a)
 under_encode trip packet.TripNotice = under_packed trip 21 [] tt
-under_encode trip (packet.Other o s b) =
-    cond_both (leb (s + b) (8 * length o.now)) (take b (drop s (bits_of o.now))) [] (AllBelowBase 2) (λ _. All-take (λ d. d < 2) b (drop s (bits_of o.now)) (All-drop (λ d. d < 2) s (bits_of o.now) (under_bits_of o.now))) (λ _. tt)
+under_encode trip (packet.Other s b) = under_lying b.octets.now b.offset b.len b.lies
 
 pub under_body : (trip : ℕ) (ps : List Packet) → AllBelowBase 2 (body_of trip (map content ps))
 under_body trip [] = tt

@@ -7,30 +7,20 @@ ghost use Rattle.writer.specs.Writers.{draft};
 ghost use Rattle.roundtrip.specs.Sending.{sent, ended, unless_refused, rewritten};
 ghost use Rattle.roundtrip.specs.RoundTrips.{Rewritten};
 
-use crate::write::end;
 use vocabulary::fault::Fault;
 use vocabulary::trip::TripNumber;
 use wire::message::{Message, Packets};
 use writer::writer::Writer;
 
 // The packets that a walk has before it are added, one after the other, until one is refused.
-fn add_rest(writer: &mut Writer, packets: &mut Packets) -> Result<(), Fault>
-    ensures sent { sent (ahead packets.old) (draft writer.old) ≡ unless_refused result (draft writer.new).buffer (ended (draft writer.new)) }
+fn add_rest(writer: &mut Writer, packets: Packets) -> Result<(), Fault>
+    ensures sent { sent (ahead packets.entry) (draft writer.old) ≡ unless_refused result (draft writer.new).buffer (ended (draft writer.new)) }
     ensures lender { writer.new.octets.ghost_name ≡ writer.old.octets.ghost_name }
 {
-    while let Some(packet) = packets.next() {
+    for packet in packets {
         writer.add(&packet)?;
     }
     Ok(())
-}
-
-// A message of the same STM as one that was read, with no packet yet.
-fn start<'a>(octets: &'a mut [u8], read: &Message, trip: TripNumber) -> Writer<'a>
-    ensures draft { draft result ≡ started (reading read.now).sender (trip_of trip) octets.old }
-    ensures lender { result.octets.ghost_name ≡ octets.entry.ghost_name }
-{
-    let sender = read.sender();
-    Writer::new(octets, sender, trip)
 }
 
 // A message is read, and what it says is written at the front of a buffer; how many octets that has.
@@ -40,8 +30,7 @@ pub fn rewrite_message(octets: &mut [u8], message: &[u8], trip: TripNumber) -> R
     ensures law { Rewritten (trip_of trip) message.now octets.old result octets.new }
 {
     let read = Message::read(message, trip)?;
-    let mut writer = start(octets, &read, trip);
-    let mut packets = read.packets();
-    add_rest(&mut writer, &mut packets)?;
-    end(&mut writer)
+    let mut writer = Writer::new(octets, read.sender(), trip);
+    add_rest(&mut writer, read.packets())?;
+    writer.finish()
 }

@@ -22,15 +22,6 @@ fn add_all(writer: &mut Writer, packets: &[Packet]) -> Result<(), Fault>
     Ok(())
 }
 
-// The message is ended.
-pub(crate) fn end(writer: &mut Writer) -> Result<usize, Fault>
-    ensures answer { result ≡ (ended (draft writer.old)).answer }
-    ensures buffer { (draft writer.new).buffer ≡ (ended (draft writer.old)).buffer }
-    ensures lender { writer.new.octets.ghost_name ≡ writer.old.octets.ghost_name }
-{
-    writer.finish()
-}
-
 // A message of an STM with these packets, at the front of a buffer; how many octets it has.
 pub fn write_message(
     octets: &mut [u8],
@@ -44,5 +35,5 @@ pub fn write_message(
 {
     let mut writer = Writer::new(octets, sender, trip);
     add_all(&mut writer, packets)?;
-    end(&mut writer)
+    writer.finish()
 }

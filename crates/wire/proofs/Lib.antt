@@ -1,4 +1,3 @@
 pub mod ReaderLaws
 pub mod WalkLaws
 pub mod MessageLaws
-pub mod UnreadLaws

@@ -1,7 +1,9 @@
 -- How octets are read as a message.
-use Rattle.std.proofs.Common.{◌≡◌, ℕ, ◌*◌, ◌≤◌, min, List, length, get_or, take, Some, None, Ok, Err, Option, sym, ap, ◌∙◌, arith}
-use Rattle.std.proofs.lemmas.List.{take_all}
-use Rattle.std.proofs.lemmas.Bool.{cond_both, ltb-false, eqb-true}
+use Rattle.std.proofs.Common.{◌≡◌, ℕ, ◌-◌, ◌*◌, ◌≤◌, List, length, get_or, drop, None, Some, Option, sym, arith, length-drop}
+use Rattle.std.proofs.lemmas.List.{drop_all, take_all}
+use Rattle.std.proofs.lemmas.Bool.{cond_both, ltb-false, eqb-true, leb-false}
+use Rattle.bits.specs.Bits.{bits_of, stretch}
+use Rattle.bits.proofs.BitLaws.{length_bits_of}
 use Rattle.vocabulary.specs.declared.fault.Fault.{Fault}
 use Rattle.wire.specs.Messages.{Reading, walked, body_bits, size_fault, unless, read_message}
 
@@ -22,27 +24,9 @@ sized s =
     (λ e _. record { least = ltb-false _ _ a; most = ltb-false _ _ b; stated = eqb-true _ _ e })
     (λ _ h. absurd (none_some _ h))))
 
--- the walk over a message's packets, as the reader makes it
-module _ (t trip : ℕ) (e : t ≡ trip) (s bs : List ℕ) (at : ℕ) (f : None ≡ size_fault s) (b : bs ≡ body_bits (take 255 s)) (a : at ≡ min 16 (8 * min (length s) 255)) where
-  size : Sized s
-  size = sized s (sym f)
-
-  all : take 255 s ≡ s
-  all = take_all 255 s size.most
-
-  place : at ≡ 16
-  place = omega (arith, size.least)
-
-  same : walked t at bs ≡ walked trip 16 (body_bits s)
-  same = λ i. walked (e i) (place i) ((b ∙ ap body_bits all) i)
-
-  pub read_wrong : (d : Fault) → Some d ≡ (walked t at bs).stop → Err d ≡ read_message trip s
-  read_wrong d h =
-      ap (λ x. unless {X = Reading} x (Ok (record { sender = get_or s 0 0; packets = (walked trip 16 (body_bits s)).packets }))) (h ∙ ap (λ w. w.stop) same)
-      ∙ ap (λ x. unless x (unless (walked trip 16 (body_bits s)).stop (Ok (record { sender = get_or s 0 0; packets = (walked trip 16 (body_bits s)).packets })))) f
-
-  pub read_right : None ≡ (walked t at bs).stop → Ok (record { sender = get_or s 0 0; packets = (walked t 16 (body_bits (take 255 s))).packets }) ≡ read_message trip s
-  read_right h =
-      (λ i. Ok (record { sender = get_or s 0 0; packets = (walked (e i) 16 (body_bits (all i))).packets }))
-      ∙ ap (λ x. unless {X = Reading} x (Ok (record { sender = get_or s 0 0; packets = (walked trip 16 (body_bits s)).packets }))) (h ∙ ap (λ w. w.stop) same)
-      ∙ ap (λ x. unless x (unless (walked trip 16 (body_bits s)).stop (Ok (record { sender = get_or s 0 0; packets = (walked trip 16 (body_bits s)).packets })))) f
+-- the bits behind the first two octets
+pub body_is : (s : List ℕ) (n : ℕ) → n ≡ 8 * length s - 16 → stretch s 16 n ≡ body_bits s
+body_is s n e =
+    cond_both _ _ _ (λ bs. bs ≡ body_bits s)
+    (λ _. take_all n (drop 16 (bits_of s)) (omega (arith, length-drop 16 (bits_of s), length_bits_of s)))
+    (λ b. sym (drop_all 16 (bits_of s) (omega (arith, leb-false _ _ b, length_bits_of s))))

@@ -1,11 +1,16 @@
 -- The walk over packets, one step and its end.
-use Rattle.std.proofs.Common.{◌≡◌, ℕ, zero, suc, ◌+◌, ◌<◌, ◌≤◌, true, cond, List, [], length, drop, Some, Ok, Err, Result, sym, refl, ap, ◌∙◌, le_refl, arith, length-drop, drop-drop}
+use Rattle.std.proofs.Common.{◌≡◌, ℕ, zero, suc, ◌+◌, ◌<◌, ◌≤◌, true, cond, List, [], length, drop, Some, None, Option, Ok, Err, Result, sym, refl, ap, ◌∙◌, le_refl, arith, length-drop, drop-drop}
 use Rattle.std.proofs.lemmas.Bool.{cond-true, cond-false, cond_both, lt-ltb, le-ltb, ltb-false}
 use Rattle.vocabulary.specs.declared.fault.Fault.{Fault}
-use Rattle.wire.specs.Packets.{Content, kind_in, may_have, content_in, length_in, read_packet}
+use Rattle.wire.specs.Packets.{Content, content, kind_in, may_have, content_in, length_in, read_packet, told}
 use Rattle.wire.specs.Messages.{Walk, ended, before, walk, walked}
-use Rattle.wire.specs.Readers.{between, left, Past}
-use Rattle.wire.specs.declared.reader.BitReader.{BitReader}
+use Rattle.std.specs.Iterator.{YieldsFirstBy, MakesProgress, item_count}
+use Rattle.std.specs.Result.{MatchResult, result_ok}
+use Rattle.wire.specs.Readers.{left, Past}
+use Rattle.wire.specs.Walkers.{ahead}
+use Rattle.wire.specs.declared.packet.Packet.{Packet}
+use Rattle.wire.specs.declared.message.Packets.{Packets}
+use Rattle.vocabulary.specs.Settings.{trip_of}
 
 pub not_read : {X : Type 0} (e : Fault) (p : X) → ◌≡◌ {A = Result X Fault} (Err e) (Ok p) → ⊥
 not_read e p h = let z : ◌≡◌ {A = ℕ} 0 1 = cc in omega arith
@@ -69,14 +74,23 @@ module _ (trip start : ℕ) (bs : List ℕ) (h : 8 ≤ length bs) where
   pub walked_wrong : (e : Fault) → read_packet trip start bs ≡ Err e → walked trip start bs ≡ record { packets = []; stop = Some e }
   walked_wrong e q = walked_step ∙ ap (λ x. before x (walk trip (length bs) (start + length_in bs) (drop (length_in bs) bs))) q
 
--- what a reader has before it, one packet on
-pub past_walk : (trip : ℕ) (r r' : BitReader) (p : Content) → 8 ≤ length (left r) → read_packet trip r.at (left r) ≡ Ok p → Past r r' →
-    walked trip r.at (left r) ≡ before (Ok p) (walked trip r'.at (left r'))
-past_walk trip r r' p h e q =
-    let rest : drop (length_in (left r)) (left r) ≡ left r' =
-    drop-drop (length_in (left r)) r.at _ ∙ (λ i. between (sym q.octets i) (sym q.at i) (sym q.end i)) in
-    walked_more trip r.at (left r) h p e ∙ (λ i. before (Ok p) (walked trip (sym q.at i) (rest i)))
+-- what a walk has before it, one packet on
+pub past_walk : (w w' : Packets) (p : Content) → 8 ≤ length (left w) → read_packet (trip_of w.trip) w.at (left w) ≡ Ok p → Past w w' →
+    walked (trip_of w.trip) w.at (left w) ≡ before (Ok p) (walked (trip_of w'.trip) w'.at (left w'))
+past_walk w w' p h e q =
+    walked_more (trip_of w.trip) w.at (left w) h p e ∙ (λ i. before (Ok p) (walked (trip_of (sym q.trip i)) (sym q.at i) (sym q.rest i)))
 
--- and it has come nearer to the end
-pub past_less : (trip : ℕ) (r r' : BitReader) (p : Content) → read_packet trip r.at (left r) ≡ Ok p → Past r r' → r.at + 21 ≤ r'.at
-past_less trip r r' p e q = omega (arith, q.at, (was_read trip r.at (left r) p e).least)
+-- and if there is no packet, nothing
+pub no_walk : (w : Packets) (e : Fault) → 8 ≤ length (left w) → read_packet (trip_of w.trip) w.at (left w) ≡ Err e → (walked (trip_of w.trip) w.at (left w)).packets ≡ []
+no_walk w e h q = ap (λ x. x.packets) (walked_wrong (trip_of w.trip) w.at (left w) h e q)
+
+-- one call of `next` behind the padding's test
+pub next_gives : (w w' : Packets) (r : Result Packet Fault) → 8 ≤ length (left w) → told r ≡ read_packet (trip_of w.trip) w.at (left w) → MatchResult r (λ _. Past w w') (λ _. w' ≡ w) →
+    YieldsFirstBy content ahead w (result_ok r) w'
+next_gives w w' (Ok p) h q e = ap (λ x. x.packets) (past_walk w w' (content p) h (sym q) e)
+next_gives w w' (Err f) h q e = let none = no_walk w f h (sym q) in (none, ap ahead e ∙ none)
+
+-- and what is left grows less by what comes
+pub next_goes : (w w' : Packets) (r : Option Packet) → YieldsFirstBy content ahead w r w' → MakesProgress (λ _. Unit {0}) (item_count ahead) w r w'
+next_goes w w' (Some p) e = record { on = λ f. (tt, f, omega (arith, ap length e)); keeps = tt; rests = λ _. tt }
+next_goes w w' None e = record { on = λ _. tt; keeps = tt; rests = λ f. f }

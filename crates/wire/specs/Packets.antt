@@ -5,7 +5,8 @@ use Rattle.vocabulary.specs.Refusals.{fault_at}
 use Rattle.vocabulary.specs.declared.fault.Fault.{Fault}
 use Rattle.vocabulary.specs.declared.fault.Layer.TheVariants as layer
 use Rattle.vocabulary.specs.declared.fault.Refusal.TheVariants as refusal
-use Rattle.bits.specs.Bits.{value_at, stretch}
+use Rattle.bits.specs.Bits.{value_at}
+use Rattle.bits.specs.Pieces.{bits}
 use Rattle.wire.specs.Kinds.{kind_number, kind_length, kinds}
 use Rattle.wire.specs.declared.kind.Kind.{Kind}
 use Rattle.wire.specs.declared.kind.Kind.TheVariants as kind
@@ -22,7 +23,7 @@ pub data Content : Type 0 where
   notice : Content
   other : List ℕ → Content
 
--- An unread packet is a stretch of its message's octets; it has no bits if they do not hold the whole of it.
+-- An unread packet is its bits.
 abbrev pub content : Packet → Content
 content (packet.Version major minor) = version major minor
 content (packet.Status level mode) = status level mode
@@ -30,7 +31,7 @@ content (packet.Request state) = request state
 content (packet.Order state) = order state
 content (packet.Report state) = report state
 content packet.TripNotice = notice
-content (packet.Other octets start bits) = other (stretch octets.now start bits)
+content (packet.Other start b) = other (bits b)
 
 -- A packet begins with its number (8 bits) and its length (13 bits), which counts all of its bits.
 abbrev pub number_in : List ℕ → ℕ

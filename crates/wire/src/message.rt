@@ -1,18 +1,33 @@
 // Messages.
-use crate::reader::BitReader;
+ghost use Rattle.std.specs.Prelude.{◌+◌, ◌≤◌, length};
+ghost use Rattle.bits.specs.Pieces.{bits};
+
+use bits::bits::Bits;
+use vocabulary::trip::TripNumber;
 
 pub mod ops;
+mod walk;
 
-// The octets of a message that was found right, with the number that a trip notice has in it.
+// How many octets a message has at least and at most, and how many stand before its packets.
+pub const LEAST: usize = 5;
+
+pub const MOST: usize = 255;
+
+pub const HEAD: usize = 2;
+
+// A message that was found right: the number of its STM, and a walk over its packets.
 #[derive(Clone, Copy)]
 pub struct Message<'a> {
-    octets: &'a [u8],
-    trip: u8,
+    sender: u8,
+    packets: Packets<'a>,
 }
 
-// A walk over the packets of a message.
+// A walk over the packets of a message: the bits that are left, the bit of the message at which they start, and the number that a
+// trip notice has in it.
 #[derive(Clone, Copy)]
 pub struct Packets<'a> {
-    reader: BitReader<'a>,
-    trip: u8,
+    at: usize,
+    left: Bits<'a>,
+    trip: TripNumber,
+    ghost small: { at + length (bits left) ≤ 2040 },
 }

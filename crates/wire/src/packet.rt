@@ -1,4 +1,12 @@
 // Packets.
+use bits::bits::Bits;
+
+// How many bits a packet's number has, its length field, and both.
+pub const NUMBER: usize = 8;
+
+pub const LENGTH: usize = 13;
+
+pub const HEADER: usize = NUMBER + LENGTH;
 
 // A packet. Values are the numbers that stand on the wire, whatever they mean.
 #[derive(Clone, Copy)]
@@ -21,10 +29,9 @@ pub enum Packet<'a> {
     Report(u8),
     // The National Trip Procedure.
     TripNotice,
-    // Any other packet, unread: `bits` bits of the octets of its message, from the bit `start` on.
+    // Any other packet, unread: the bit of its message at which it starts, and its bits.
     Other {
-        octets: &'a [u8],
         start: usize,
-        bits: usize,
+        bits: Bits<'a>,
     },
 }

@@ -1,18 +1,59 @@
-// The bits of a message from `at` up to `end`; `start` is where the packet that is being read starts.
-ghost use Rattle.std.specs.Prelude.{◌*◌, ◌≤◌, length};
+// A packet in its bits.
+ghost use Rattle.std.specs.Prelude.{◌≡◌, ◌+◌, ◌<◌, ◌≤◌, true, length, MatchOption};
+ghost use Rattle.bits.specs.Bits.{value_at};
+ghost use Rattle.bits.specs.Pieces.{bits};
+ghost use Rattle.wire.specs.Packets.{may_have, content, content_in};
+ghost use Rattle.wire.specs.Readers.{Headed};
 
-pub(crate) mod fields;
-pub(crate) mod packets;
-pub(crate) mod walk;
+use crate::kind::Kind;
+use crate::packet::{HEADER, LENGTH, NUMBER, Packet};
+use bits::bits::Bits;
 
-#[derive(Clone, Copy)]
-pub(crate) struct BitReader<'a> {
-    pub(crate) octets: &'a [u8],
-    pub(crate) start: usize,
-    pub(crate) at: usize,
-    pub(crate) end: usize,
-    ghost follows: { start ≤ at },
-    ghost within: { at ≤ end },
-    ghost lies: { end ≤ 8 * length octets.now },
-    ghost small: { end ≤ 2040 },
+// The number and the length that the first 21 bits say, if there are so many.
+pub(crate) fn header(packet: &Bits) -> Option<(u8, usize)>
+    ensures { MatchOption result (length (bits packet.now) < 21) (λ h. Headed (bits packet.now) h.0 h.1) }
+{
+    let number = packet.number(0, NUMBER)?;
+    let length = packet.number(NUMBER, LENGTH)?;
+    Some((number as u8, usize::from(length)))
+}
+
+// Whether a packet may have that many bits.
+pub(crate) fn may_have(kind: Option<Kind>, bits: usize) -> bool
+    ensures { result ≡ may_have kind bits }
+{
+    kind.is_none_or(|known| bits == known.length())
+}
+
+// The number that n bits of a packet write, from its bit `from` on.
+fn field(packet: &Bits, from: usize, n: usize) -> u8
+    requires { (from + n ≤ length (bits packet.now)) × (n ≤ 8) }
+    ensures { result ≡ value_at (bits packet.now) from n }
+{
+    packet.number(from, n).unwrap() as u8
+}
+
+// What a packet says that starts at that bit of its message, once its number and its length are found right.
+pub(crate) fn body<'a>(kind: Option<Kind>, start: usize, packet: &Bits<'a>) -> Packet<'a>
+    requires { (21 ≤ length (bits packet.now)) × (may_have kind (length (bits packet.now)) ≡ true) }
+    ensures { content result ≡ content_in kind (length (bits packet.now)) (bits packet.now) }
+{
+    match kind {
+        Some(Kind::Version) => Packet::Version {
+            major: field(packet, HEADER, 8),
+            minor: field(packet, HEADER + 8, 8),
+        },
+        Some(Kind::Status) => Packet::Status {
+            level: field(packet, HEADER, 3),
+            mode: field(packet, HEADER + 3, 4),
+        },
+        Some(Kind::Request) => Packet::Request(field(packet, HEADER, 4)),
+        Some(Kind::Order) => Packet::Order(field(packet, HEADER, 4)),
+        Some(Kind::Report) => Packet::Report(field(packet, HEADER, 4)),
+        Some(Kind::TripNotice) => Packet::TripNotice,
+        None => Packet::Other {
+            start,
+            bits: *packet,
+        },
+    }
 }

@@ -117,10 +117,3 @@ module _ (w : Writer) (n : ℕ) (w₁ : Writer) (q : Pads w n w₁) where
   finish_buffer a b s e =
       ap (λ x. set (set w₁.octets.now 0 x) 1 b) s
       ∙ front_two w.octets.now w₁.octets.now (padded (written w)) w.sender b n count_is q.octets q.behind e (omega (arith, q.within, q.size))
-
--- a trip notice has an octet for its number, and it is no other packet's
-pub trip_octet : (w : Writer) → (draft w).trip < 256
-trip_octet w = omega (arith, w.named, w.octet)
-
-pub trip_free : (w : Writer) → taken (draft w).trip ≡ false
-trip_free w = w.trip.free

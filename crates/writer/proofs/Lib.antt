@@ -1,4 +1,3 @@
-pub mod EncodingLaws
 pub mod OctetLaws
 pub mod WriterLaws
 pub mod DraftLaws

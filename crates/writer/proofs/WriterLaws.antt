@@ -6,7 +6,9 @@ use Rattle.std.proofs.lemmas.List.{take_more_set, take-set, get_or_append_left, 
 use Rattle.std.proofs.lemmas.Bool.{cases_lt}
 use Rattle.bits.specs.Bits.{field, bits_of}
 use Rattle.bits.proofs.BitLaws.{length_field, length_bits_of, bits_of_append}
+use Rattle.wire.specs.declared.kind.Kind.{Kind}
 use Rattle.writer.specs.Drafts.{room}
+use Rattle.writer.specs.Encoding.{packed}
 use Rattle.writer.specs.Writers.{written, Room, Adds}
 use Rattle.writer.specs.declared.writer.Writer.{Writer}
 
@@ -85,17 +87,14 @@ pub room_after : (w w₁ : Writer) (xs : List ℕ) (n m : ℕ) → Adds w xs w�
 room_after w w₁ xs n m a r h =
     let e : room w₁.octets.now ≡ room w.octets.now = ap (λ k. min k 255 - 2) a.size in
     omega (arith, ap length a.bits, length-append (written w) xs, e)
+-- one bit more of a number
+pub field_more : (n k v : ℕ) → 0 < k → k ≤ n → field (n - k) (v / 2 ^ k) ++ (v / 2 ^ (k - 1) % 2 ∷ []) ≡ field (n - (k - 1)) (v / 2 ^ (k - 1))
+field_more n k v some h =
+    let e : suc (n - k) ≡ n - (k - 1) = omega arith in
+    let last : (k - 1) + 1 ≡ k = omega arith in
+    let half : v / 2 ^ (k - 1) / 2 ≡ v / 2 ^ k = shr-shr v (k - 1) 1 ∙ ap (λ j. v / 2 ^ j) last in
+    ap (λ x. field (n - k) x ++ (v / 2 ^ (k - 1) % 2 ∷ [])) (sym half) ∙ ap (λ m. field m (v / 2 ^ (k - 1))) e
 
-pub field_at : (n v k : ℕ) → k < n → get_or (field n v) k 0 ≡ v / 2 ^ (n - 1 - k) % 2
-field_at zero v k h = absurd (omega arith)
-field_at (suc n) v k h =
-    ⊎_elim
-    (λ lt.
-    let e : 1 + (n - 1 - k) ≡ suc n - 1 - k = omega arith in
-    get_or_append_left (field n (v / 2)) (v % 2 ∷ []) 0 k (omega (arith, length_field n (v / 2)))
-    ∙ field_at n (v / 2) k lt ∙ ap (λ x. x % 2) (shr-shr v 1 (n - 1 - k)) ∙ ap (λ x. v / 2 ^ x % 2) e)
-    (λ ge.
-    let e : suc n - 1 - k ≡ 0 = omega arith in
-    let same : n ≡ k = omega arith in
-    get_or_at (field n (v / 2)) (v % 2) [] 0 k (length_field n (v / 2) ∙ same) ∙ sym (ap (λ x. v / 2 ^ x % 2) e ∙ omega arith))
-    (cases_lt k n)
+-- a known packet has 21 bits and those of its fields
+pub packed_size : (trip : ℕ) (k : Kind) (w1 v1 w2 v2 : ℕ) → length (packed trip k (field w1 v1 ++ field w2 v2)) ≡ 21 + (w1 + w2)
+packed_size trip k w1 v1 w2 v2 = omega (arith, length-append (field w1 v1) (field w2 v2), length_field w1 v1, length_field w2 v2)

@@ -1,3 +1,4 @@
 pub mod Encoding
+pub mod Coding
 pub mod Drafts
 pub mod Writers

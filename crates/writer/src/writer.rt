@@ -1,6 +1,5 @@
 // A message that is being written to a lent buffer.
 ghost use Rattle.std.specs.Prelude.{◌≡◌, ◌+◌, ◌-◌, ◌*◌, ◌^◌, ◌<◌, ◌≤◌, min, true, length, take, drop};
-ghost use Rattle.vocabulary.specs.Settings.{trip_of};
 ghost use Rattle.writer.specs.Drafts.{are_octets};
 
 use vocabulary::trip::TripNumber;
@@ -10,13 +9,12 @@ pub mod ops;
 mod packets;
 
 // The whole octets of the packets stand in the buffer from its third octet on, `full` of them, and the first `count`
-// bits of the next octet wait. A trip notice has the number `number`.
+// bits of the next octet wait. The octets are written into a lent buffer, so their number stands beside it.
 #[derive(Drop)]
 pub struct Writer<'a> {
     octets: &'a mut [u8],
     sender: u8,
     trip: TripNumber,
-    number: u8,
     full: usize,
     waiting: u8,
     count: usize,
@@ -24,6 +22,4 @@ pub struct Writer<'a> {
     ghost few: { count < 8 },
     ghost fits: { waiting < 2 ^ count },
     ghost octal: { are_octets (take full (drop 2 octets.now)) ≡ true },
-    ghost named: { number ≡ trip_of trip },
-    ghost octet: { number < 256 },
 }

@@ -1,12 +1,12 @@
 // Bits into the buffer.
-ghost use Rattle.std.specs.Prelude.{◌+◌, ◌*◌, ◌<◌, ◌≤◌, [], ◌∷◌, length, take, drop};
-ghost use Rattle.bits.specs.Bits.{field, bits_of};
+ghost use Rattle.std.specs.Prelude.{◌<◌, ◌≤◌, [], ◌∷◌, length};
+ghost use Rattle.bits.specs.Bits.{field};
+ghost use Rattle.bits.specs.Pieces.{bits};
 ghost use Rattle.writer.specs.Writers.{Room, Adds};
 
 use super::Writer;
-use bits::bit;
-
-const HEAD: usize = 2;
+use bits::bits::Bits;
+use wire::message::HEAD;
 
 const LAST: usize = 7;
 
@@ -33,18 +33,18 @@ impl<'a> Writer<'a> {
         requires { (n ≤ 13) × (Room self.old n) }
         ensures { Adds self.old (field n v) self.new }
     {
-        for k in 0..n {
-            self.bit(((v >> (n - 1 - k)) % 2) as u8);
+        for k in (0..n).rev() {
+            self.bit(((v >> k) % 2) as u8);
         }
     }
 
-    // The n bits of some octets from a bit of the first of them on.
-    pub(super) fn copy(&mut self, octets: &[u8], start: usize, n: usize)
-        requires { (start < 8) × ((start + n ≤ 8 * length octets.now) × (Room self.old n)) }
-        ensures { Adds self.old (take n (drop start (bits_of octets.now))) self.new }
+    // Bits as they are.
+    pub(super) fn copy(&mut self, unread: &Bits)
+        requires { Room self.old (length (bits unread.now)) }
+        ensures { Adds self.old (bits unread.now) self.new }
     {
-        for k in 0..n {
-            self.bit(bit(octets, start + k));
+        for b in unread.iter() {
+            self.bit(b);
         }
     }
 }

@@ -10,41 +10,17 @@ ghost use Rattle.writer.specs.Drafts.{started, add_answer, added, finish_answer,
 ghost use Rattle.writer.specs.Writers.{written, draft, Pads};
 
 use super::Writer;
-use super::packets::{is_writable, size_of};
+use crate::parts::Parts;
 use vocabulary::fault::{Fault, Layer, Refusal};
 use vocabulary::trip::TripNumber;
+use wire::message::{HEAD, MOST};
 use wire::packet::Packet;
 
 const OCTET: usize = 8;
 
-const HEAD: usize = 2;
-
 const SENDER: usize = 0;
 
 const COUNT: usize = 1;
-
-const MOST: usize = 255;
-
-// The refusal of a packet that cannot be written.
-fn misfit() -> Fault
-    ensures { result ≡ fault_at refusal.Misfit 0 layer.Packet }
-{
-    Fault::new(Refusal::Misfit, 0, Layer::Packet)
-}
-
-// The refusal of a packet for which there is no room.
-fn no_room() -> Fault
-    ensures { result ≡ fault_at refusal.Full 0 layer.Message }
-{
-    Fault::new(Refusal::Full, 0, Layer::Message)
-}
-
-// The refusal of a message without a packet.
-fn no_packet() -> Fault
-    ensures { result ≡ wrong_length 0 }
-{
-    Fault::new(Refusal::MessageLength, 0, Layer::Message)
-}
 
 // The first bits of an octet, with zeros behind them.
 fn filled(waiting: u8, count: usize) -> u8
@@ -75,12 +51,10 @@ impl<'a> Writer<'a> {
         ensures draft { draft result ≡ started sender (trip_of trip) octets.old }
         ensures lender { result.octets.ghost_name ≡ octets.entry.ghost_name }
     {
-        let number = trip.number();
         Writer {
             octets,
             sender,
             trip,
-            number,
             full: 0,
             waiting: 0,
             count: 0,
@@ -100,13 +74,14 @@ impl<'a> Writer<'a> {
         ensures draft { draft self.new ≡ added (content packet.now) (draft self.old) }
         ensures lender { self.new.octets.ghost_name ≡ self.old.octets.ghost_name }
     {
-        if !is_writable(packet, self.trip) {
-            return Err(misfit());
+        let parts = Parts::of(packet);
+        if !parts.is_writable(self.trip) {
+            return Err(Fault::new(Refusal::Misfit, 0, Layer::Packet));
         }
-        if self.room() < size_of(packet) {
-            return Err(no_room());
+        if self.room() < parts.len() {
+            return Err(Fault::new(Refusal::Full, 0, Layer::Message));
         }
-        self.packet(packet);
+        self.packet(&parts);
         Ok(())
     }
 
@@ -136,7 +111,7 @@ impl<'a> Writer<'a> {
         ensures lender { self.new.octets.ghost_name ≡ self.old.octets.ghost_name }
     {
         if self.is_empty() {
-            return Err(no_packet());
+            return Err(Fault::new(Refusal::MessageLength, 0, Layer::Message));
         }
         let len = length_of(self.pad());
         self.octets[SENDER] = self.sender;

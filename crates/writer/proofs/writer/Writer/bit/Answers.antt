@@ -11,13 +11,13 @@ invariant_of-self c =
     let e : w.count ≡ 7 = omega arith in
     let small : w.waiting < 128 = omega (arith, w.fits, ap (λ k. 2 ^ k) e) in
     let size = length-set w.octets.now (2 + w.full) (w.waiting * 2 + c.args.b) in
-    record { lies = omega arith; few = omega arith; fits = omega arith; octal = octets_push _ _ _ (with_set w.octets.now w.full _ (omega arith)) w.octal (omega arith); named = w.named; octet = w.octet }
+    record { lies = omega arith; few = omega arith; fits = omega arith; octal = octets_push _ _ _ (with_set w.octets.now w.full _ (omega arith)) w.octal (omega arith) }
 
 pub invariant_of-self-else-self-eq-LAST : goal.invariant_of-self-else-self-eq-LAST
 invariant_of-self-else-self-eq-LAST c =
     let w = c.args.self.now in
     let l = length_written w in
-    record { lies = omega arith; few = omega arith; fits = fits_push w.count w.waiting c.args.b c.requires.1 w.fits; octal = w.octal; named = w.named; octet = w.octet }
+    record { lies = omega arith; few = omega arith; fits = fits_push w.count w.waiting c.args.b c.requires.1 w.fits; octal = w.octal }
 
 pub returns-then-self-eq-LAST : goal.returns-then-self-eq-LAST
 returns-then-self-eq-LAST c =

@@ -12,7 +12,7 @@ pub invariant_of-self : goal.invariant_of-self
 invariant_of-self c =
     let w = c.args.self.now in
     let size = length-set w.octets.now (2 + w.full) c.filled.result in
-    record { lies = omega (arith, w.lies); few = w.few; fits = w.fits; octal = ap are_octets (before_set w.octets.now w.full c.filled.result) ∙ w.octal; named = w.named; octet = w.octet }
+    record { lies = omega (arith, w.lies); few = w.few; fits = w.fits; octal = ap are_octets (before_set w.octets.now w.full c.filled.result) ∙ w.octal }
 
 pub returns : goal.returns
 returns c =

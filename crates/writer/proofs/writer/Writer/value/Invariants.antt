@@ -1,7 +1,7 @@
-use Rattle.std.proofs.Common.{take}
+use Rattle.std.proofs.Common.{◌-◌, ◌/◌, ◌^◌}
 use Rattle.bits.specs.Bits.{field}
 use Rattle.writer.specs.Writers.{Adds}
 use Rattle.writer.proofs.writer.Writer.value.Given as goal
 
 abbrev pub invariant-loop-k : goal.invariant-loop-k
-invariant-loop-k l = Adds l.initial.self (take l.k (field l.n l.v)) l.self
+invariant-loop-k l = Adds l.initial.self (field (l.n - l.k) (l.v / 2 ^ l.k)) l.self
