@@ -7,7 +7,8 @@ ghost use Rattle.bits.specs.Bits.{bits_of, window_at};
 
 pub mod bits;
 
-pub(crate) const WIDTH: usize = 8;
+// How many bits an octet has.
+pub const OCTET: usize = 8;
 
 const LAST: usize = 7;
 
@@ -15,14 +16,14 @@ const LAST: usize = 7;
 fn octet_of(i: usize) -> usize
     ensures { result ≡ i / 8 }
 {
-    i / WIDTH
+    i / OCTET
 }
 
 // How many bits of its octet stand behind a bit.
 fn behind(i: usize) -> usize
     ensures { result ≡ 7 - i % 8 }
 {
-    LAST - i % WIDTH
+    LAST - i % OCTET
 }
 
 // The bit at a place, 0 or 1; behind the last octet every bit is 0.
@@ -42,7 +43,7 @@ fn reach(i: usize, n: usize) -> usize
     requires { i < 8 }
     ensures { result ≡ (i + n + 7) / 8 }
 {
-    n / WIDTH + (i + n % WIDTH + LAST) / WIDTH
+    n / OCTET + (i + n % OCTET + LAST) / OCTET
 }
 
 // The octets from the one on that the bit i stands in, if all of the n bits from i on lie in the octets.
@@ -50,7 +51,7 @@ pub(crate) fn window(octets: &[u8], i: usize, n: usize) -> Option<&[u8]>
     ensures { option_map (λ x. x.now) result ≡ window_at octets.now i n }
 {
     let first = octet_of(i);
-    if first <= octets.len() && reach(i % WIDTH, n) <= octets.len() - first {
+    if first <= octets.len() && reach(i % OCTET, n) <= octets.len() - first {
         Some(&octets[first..])
     } else {
         None

@@ -2,17 +2,18 @@
 // octets came back.
 #![tactic(auto)]
 
+ghost use Rattle.std.specs.Prelude.{◌≡◌, ◌+◌, ◌≤◌, length};
+ghost use Rattle.std.specs.Option.{IfSome};
+
 use crate::sequences::STREAM;
 use roundtrip::rewrite::rewrite_message;
 use std::io;
 use vocabulary::fault::Fault;
 use vocabulary::trip::TripNumber;
-use wire::message::{Message, Packets};
+use wire::message::{HEAD, MOST, Message, Packets};
 use wire::packet::Packet;
 
 mod sequences;
-
-const MOST: usize = 255;
 
 const TRIP: u8 = 200;
 
@@ -25,17 +26,16 @@ fn show(rt: &HostRuntime, packet: &Packet) -> io::Result<()> {
         Packet::Order(state) => print!(rt; " order {state}"),
         Packet::Report(state) => print!(rt; " report {state}"),
         Packet::TripNotice => print!(rt; " trip notice"),
-        Packet::Other {
-            octets: _,
-            start,
-            bits,
-        } => print!(rt; " unread {bits} bits from bit {start}"),
+        Packet::Other { start, bits } => {
+            let len = bits.len();
+            print!(rt; " unread {len} bits from bit {start}")
+        }
     }
 }
 
 // What the packets say that a walk has before it.
-fn show_all(rt: &HostRuntime, packets: &mut Packets) -> io::Result<()> {
-    while let Some(packet) = packets.next() {
+fn show_all(rt: &HostRuntime, packets: Packets) -> io::Result<()> {
+    for packet in packets {
         show(rt, &packet)?;
     }
     Ok(())
@@ -45,27 +45,15 @@ fn show_all(rt: &HostRuntime, packets: &mut Packets) -> io::Result<()> {
 fn show_fault(rt: &HostRuntime, fault: &Fault) -> io::Result<()> {
     let number = fault.number();
     let place = fault.place;
-    let layer = fault.layer.name();
+    let layer = fault.layer;
     println!(rt; " refused {number} at {place}, {layer}")
 }
 
 // The message is written again: whether the same octets come back.
 fn comes_back(octets: &[u8], trip: TripNumber) -> bool {
     let mut buffer = [0u8; MOST];
-    match rewrite_message(&mut buffer, octets, trip) {
-        Ok(len) => len == octets.len() && same(&buffer, octets),
-        Err(_) => false,
-    }
-}
-
-// Whether a buffer begins with these octets.
-fn same(buffer: &[u8], octets: &[u8]) -> bool {
-    for (i, octet) in octets.iter().enumerate() {
-        if i >= buffer.len() || buffer[i] != *octet {
-            return false;
-        }
-    }
-    true
+    let len = rewrite_message(&mut buffer, octets, trip);
+    len == Ok(octets.len()) && buffer.starts_with(octets)
 }
 
 // What the message in these octets says. They are free for the next one then.
@@ -76,35 +64,42 @@ fn play(rt: &HostRuntime, receive: &mut [u8], trip: TripNumber) -> io::Result<()
     };
     let sender = message.sender();
     print!(rt; "{sender}:")?;
-    let mut packets = message.packets();
-    show_all(rt, &mut packets)?;
+    show_all(rt, message.packets())?;
     let back = comes_back(receive, trip);
     println!(rt; "; the same octets: {back}")?;
     receive.fill(0);
     Ok(())
 }
 
+// The message at the front of a stream, whose second octet is its length, and what stands behind it.
+fn split_message(stream: &[u8]) -> Option<(&[u8], &[u8])>
+    ensures { IfSome result (λ p. (2 ≤ length p.0.now) × ((length p.0.now ≤ 255) × (length p.0.now + length p.1.now ≡ length stream.now))) }
+{
+    let len = usize::from(*stream.get(1)?);
+    if len < HEAD {
+        return None;
+    }
+    stream.split_at_checked(len)
+}
+
 // The messages of a stream, one after the other.
 fn play_all(rt: &HostRuntime, stream: &[u8], trip: TripNumber) -> io::Result<()> {
-    let mut at = 0;
-    while at + 1 < stream.len() {
-        let len = usize::from(stream[at + 1]);
-        if len < 2 || len > stream.len() - at {
+    let mut rest = stream;
+    while rest.len() >= HEAD {
+        let Some((message, behind)) = split_message(rest) else {
             return println!(rt; "no message");
-        }
+        };
         let mut receive = [0u8; MOST];
-        for k in 0..len {
-            receive[k] = stream[at + k];
-        }
-        play(rt, &mut receive[0..len], trip)?;
-        at += len;
+        receive[..message.len()].copy_from_slice(message);
+        play(rt, &mut receive[..message.len()], trip)?;
+        rest = behind;
     }
     Ok(())
 }
 
 fn main(rt: HostRuntime) -> io::Result<()> {
-    match TripNumber::new(TRIP) {
-        Some(trip) => play_all(&rt, &STREAM, trip),
-        None => println!(rt; "no trip number"),
+    match TripNumber::try_from(TRIP) {
+        Ok(trip) => play_all(&rt, &STREAM, trip),
+        Err(_) => println!(rt; "no trip number"),
     }
 }

@@ -8,19 +8,22 @@ pub const LENGTH: usize = 13;
 
 pub const HEADER: usize = NUMBER + LENGTH;
 
+// How many bits a major or a minor has, a level, a mode, and a state.
+pub const VERSION: usize = 8;
+
+pub const LEVEL: usize = 3;
+
+pub const MODE: usize = 4;
+
+pub const STATE: usize = 4;
+
 // A packet. Values are the numbers that stand on the wire, whatever they mean.
 #[derive(Clone, Copy)]
 pub enum Packet<'a> {
     // STM-1: the version of the interface that the sender speaks.
-    Version {
-        major: u8,
-        minor: u8,
-    },
+    Version { major: u8, minor: u8 },
     // STM-5: the level and the mode of the on-board.
-    Status {
-        level: u8,
-        mode: u8,
-    },
+    Status { level: u8, mode: u8 },
     // STM-13: the state that the STM asks for.
     Request(u8),
     // STM-14: the state that the STM is ordered to.
@@ -30,8 +33,5 @@ pub enum Packet<'a> {
     // The National Trip Procedure.
     TripNotice,
     // Any other packet, unread: the bit of its message at which it starts, and its bits.
-    Other {
-        start: usize,
-        bits: Bits<'a>,
-    },
+    Other { start: usize, bits: Bits<'a> },
 }

@@ -6,7 +6,7 @@ ghost use Rattle.wire.specs.Packets.{may_have, content, content_in};
 ghost use Rattle.wire.specs.Readers.{Headed};
 
 use crate::kind::Kind;
-use crate::packet::{HEADER, LENGTH, NUMBER, Packet};
+use crate::packet::{HEADER, LENGTH, LEVEL, MODE, NUMBER, Packet, STATE, VERSION};
 use bits::bits::Bits;
 
 // The number and the length that the first 21 bits say, if there are so many.
@@ -40,16 +40,16 @@ pub(crate) fn body<'a>(kind: Option<Kind>, start: usize, packet: &Bits<'a>) -> P
 {
     match kind {
         Some(Kind::Version) => Packet::Version {
-            major: field(packet, HEADER, 8),
-            minor: field(packet, HEADER + 8, 8),
+            major: field(packet, HEADER, VERSION),
+            minor: field(packet, HEADER + VERSION, VERSION),
         },
         Some(Kind::Status) => Packet::Status {
-            level: field(packet, HEADER, 3),
-            mode: field(packet, HEADER + 3, 4),
+            level: field(packet, HEADER, LEVEL),
+            mode: field(packet, HEADER + LEVEL, MODE),
         },
-        Some(Kind::Request) => Packet::Request(field(packet, HEADER, 4)),
-        Some(Kind::Order) => Packet::Order(field(packet, HEADER, 4)),
-        Some(Kind::Report) => Packet::Report(field(packet, HEADER, 4)),
+        Some(Kind::Request) => Packet::Request(field(packet, HEADER, STATE)),
+        Some(Kind::Order) => Packet::Order(field(packet, HEADER, STATE)),
+        Some(Kind::Report) => Packet::Report(field(packet, HEADER, STATE)),
         Some(Kind::TripNotice) => Packet::TripNotice,
         None => Packet::Other {
             start,

@@ -15,7 +15,7 @@ pub fn is_unread(packet: &Bits, trip: TripNumber) -> bool
 {
     match header(packet) {
         Some((number, length)) => {
-            length == packet.len() && Kind::from_number(number, trip.number()).is_none()
+            length == packet.len() && Kind::from_number(number, u8::from(trip)).is_none()
         }
         None => false,
     }

@@ -87,6 +87,7 @@ pub room_after : (w w₁ : Writer) (xs : List ℕ) (n m : ℕ) → Adds w xs w�
 room_after w w₁ xs n m a r h =
     let e : room w₁.octets.now ≡ room w.octets.now = ap (λ k. min k 255 - 2) a.size in
     omega (arith, ap length a.bits, length-append (written w) xs, e)
+
 -- one bit more of a number
 pub field_more : (n k v : ℕ) → 0 < k → k ≤ n → field (n - k) (v / 2 ^ k) ++ (v / 2 ^ (k - 1) % 2 ∷ []) ≡ field (n - (k - 1)) (v / 2 ^ (k - 1))
 field_more n k v some h =

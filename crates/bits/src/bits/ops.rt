@@ -6,7 +6,7 @@ ghost use Rattle.bits.specs.Pieces.{ahead, bits, Parts};
 
 use super::Bits;
 use super::iter::Iter;
-use crate::{WIDTH, bit, window};
+use crate::{OCTET, bit, window};
 
 // How many bits a number has at most.
 const WIDEST: usize = 16;
@@ -25,7 +25,7 @@ impl<'a> Bits<'a> {
         };
         Bits {
             octets: held,
-            offset: start % WIDTH,
+            offset: start % OCTET,
             len,
         }
     }
@@ -49,10 +49,10 @@ impl<'a> Bits<'a> {
             offset: self.offset,
             len: n,
         };
-        let at = self.offset + n % WIDTH;
+        let at = self.offset + n % OCTET;
         let back = Bits {
-            octets: &self.octets[n / WIDTH + at / WIDTH..],
-            offset: at % WIDTH,
+            octets: &self.octets[n / OCTET + at / OCTET..],
+            offset: at % OCTET,
             len: self.len - n,
         };
         Some((front, back))

@@ -12,11 +12,10 @@ use super::{HEAD, Packets};
 use crate::kind::Kind;
 use crate::packet::{HEADER, Packet};
 use crate::reader::{body, header, may_have};
+use bits::OCTET;
 use bits::bits::Bits;
 use vocabulary::fault::{Fault, Layer, Refusal};
 use vocabulary::trip::TripNumber;
-
-const OCTET: usize = 8;
 
 const BODY: usize = OCTET * HEAD;
 
@@ -54,7 +53,7 @@ impl<'a> Packets<'a> {
             return Err(misfit);
         }
         let (packet, rest) = self.left.split_at(length).ok_or(cut)?;
-        let kind = Kind::from_number(number, self.trip.number());
+        let kind = Kind::from_number(number, u8::from(self.trip));
         if !may_have(kind, length) {
             return Err(misfit);
         }

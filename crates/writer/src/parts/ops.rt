@@ -1,5 +1,5 @@
 // Packets by what they are written as.
-ghost use Rattle.std.specs.Prelude.{◌≡◌, ℕ, ◌^◌, length, nat_lt};
+ghost use Rattle.std.specs.Prelude.{◌≡◌, ℕ, ◌^◌, ◌≤◌, length, nat_lt};
 ghost use Rattle.vocabulary.specs.Settings.{trip_of};
 ghost use Rattle.wire.specs.Packets.{content};
 ghost use Rattle.writer.specs.Encoding.{encode, writable};
@@ -8,19 +8,20 @@ ghost use Rattle.writer.specs.Coding.{coded, sound, Codes};
 use super::{Field, Parts};
 use vocabulary::trip::TripNumber;
 use wire::kind::Kind;
-use wire::packet::{HEADER, Packet};
+use wire::packet::{HEADER, LEVEL, MODE, Packet, STATE, VERSION};
 use wire::unread::is_unread;
 
-// A major or a minor, a level, a mode, a state, and what a packet without values has.
-const VERSION: usize = 8;
-
-const LEVEL: usize = 3;
-
-const MODE: usize = 4;
-
-const STATE: usize = 4;
-
+// A packet without values has none.
 const NONE: Field = Field { value: 0, width: 0 };
+
+// A value in so many bits.
+fn field(value: u8, width: usize) -> Field
+    requires { width ≤ 8 }
+    ensures value { result.value ≡ value }
+    ensures width { result.width ≡ width }
+{
+    Field { value, width }
+}
 
 impl Field {
     // Whether the value has no more bits.
@@ -39,50 +40,15 @@ impl<'a> Parts<'a> {
         match *packet {
             Packet::Version { major, minor } => Parts::Known(
                 Kind::Version,
-                Field {
-                    value: major,
-                    width: VERSION,
-                },
-                Field {
-                    value: minor,
-                    width: VERSION,
-                },
+                field(major, VERSION),
+                field(minor, VERSION),
             ),
-            Packet::Status { level, mode } => Parts::Known(
-                Kind::Status,
-                Field {
-                    value: level,
-                    width: LEVEL,
-                },
-                Field {
-                    value: mode,
-                    width: MODE,
-                },
-            ),
-            Packet::Request(value) => Parts::Known(
-                Kind::Request,
-                Field {
-                    value,
-                    width: STATE,
-                },
-                NONE,
-            ),
-            Packet::Order(value) => Parts::Known(
-                Kind::Order,
-                Field {
-                    value,
-                    width: STATE,
-                },
-                NONE,
-            ),
-            Packet::Report(value) => Parts::Known(
-                Kind::Report,
-                Field {
-                    value,
-                    width: STATE,
-                },
-                NONE,
-            ),
+            Packet::Status { level, mode } => {
+                Parts::Known(Kind::Status, field(level, LEVEL), field(mode, MODE))
+            }
+            Packet::Request(state) => Parts::Known(Kind::Request, field(state, STATE), NONE),
+            Packet::Order(state) => Parts::Known(Kind::Order, field(state, STATE), NONE),
+            Packet::Report(state) => Parts::Known(Kind::Report, field(state, STATE), NONE),
             Packet::TripNotice => Parts::Known(Kind::TripNotice, NONE, NONE),
             Packet::Other { start: _, bits } => Parts::Unread(bits),
         }

@@ -11,12 +11,11 @@ ghost use Rattle.writer.specs.Writers.{written, draft, Pads};
 
 use super::Writer;
 use crate::parts::Parts;
+use bits::OCTET;
 use vocabulary::fault::{Fault, Layer, Refusal};
 use vocabulary::trip::TripNumber;
 use wire::message::{HEAD, MOST};
 use wire::packet::Packet;
-
-const OCTET: usize = 8;
 
 const SENDER: usize = 0;
 

@@ -17,7 +17,7 @@ impl<'a> Writer<'a> {
         requires { Room self.old (21 + (first.now.width + second.now.width)) }
         ensures { Adds self.old (packed (trip_of self.old.trip) kind (field first.now.width first.now.value ++ field second.now.width second.now.value)) self.new }
     {
-        let number = kind.number(self.trip.number());
+        let number = kind.number(u8::from(self.trip));
         self.value(NUMBER, u16::from(number));
         self.value(LENGTH, kind.length() as u16);
         self.value(first.width, u16::from(first.value));

@@ -14,7 +14,7 @@ returns-in_err-add-clause-sent c =
     let a = c.in_err-add.ensures in
     let w = c.loop-packet.writer in
     rw (p.1, p.2) (
-      c.loop-packet.invariant.0 ∙ ap (λ l. sent l (draft w)) c.in-Some.ensures.steps
-      ∙ refuses (content c.in-Some.packet) (ahead c.next.new.self) (draft w) _ a.answer
-      ∙ ap (λ (d : Draft). record { answer = Err c.in_err-add.field-0.0; buffer = d.buffer }) (sym a.draft)
+    c.loop-packet.invariant.0 ∙ ap (λ l. sent l (draft w)) c.in-Some.ensures.steps
+    ∙ refuses (content c.in-Some.packet) (ahead c.next.new.self) (draft w) _ a.answer
+    ∙ ap (λ (d : Draft). record { answer = Err c.in_err-add.field-0.0; buffer = d.buffer }) (sym a.draft)
     )
