@@ -1,7 +1,7 @@
 -- The laws of bits and of the numbers that they write.
 use Rattle.std.proofs.Common.{◌≡◌, ℕ, zero, suc, ◌+◌, ◌-◌, ◌*◌, ◌/◌, ◌%◌, ◌^◌, ◌<◌, ◌≤◌, List, [], ◌∷◌, ◌++◌, length, get_or, take, drop, Some, sym, refl, ap, ◌∙◌, subst, ⊎_elim, append_assoc, append-nil, add-zero, add-suc, suc-add, pow-suc, zero-add, arith, pow_mono, length-append, length-drop, length-take-le, get_or-drop, take-take, drop-drop, drop-cons}
 use Rattle.std.proofs.str.Laws.{order}
-use Rattle.std.proofs.lemmas.List.{get_or_append_left, get_or-append_right, get_or-take, drop-take}
+use Rattle.std.proofs.lemmas.List.{get_or_append_left, get_or-append_right, get_or-take, get_or_past, drop-take, take_rest}
 use Rattle.std.specs.Int.Digits.{number_from_digits, number_from_digits_after, AllBelowBase}
 use Rattle.std.proofs.lemmas.Int.Digits.{number_push, number_more, number_lt, number_after_ge}
 use Rattle.std.proofs.ByRecursion.{All-append, All-take, All-drop}
@@ -153,10 +153,11 @@ module _ (s : List ℕ) (offset n : ℕ) (h : offset + n ≤ 8 * length s) where
   pub front_lying : (k : ℕ) → k ≤ n → take k (drop offset (bits_of s)) ≡ take k (take n (drop offset (bits_of s)))
   front_lying k l = sym (take-take k n (drop offset (bits_of s)) l)
 
-  pub back_lying : (k q r : ℕ) → k ≤ n → 8 * q + r ≡ offset + k → take (n - k) (drop r (bits_of (drop q s))) ≡ drop k (take n (drop offset (bits_of s)))
+  pub back_lying : (k q r : ℕ) → k ≤ n → 8 * q + r ≡ offset + k → take (n - k) (drop r (bits_of (take (length s - q) (drop q s)))) ≡ drop k (take n (drop offset (bits_of s)))
   back_lying k q r l e =
       let m : k + (n - k) ≡ n = omega arith in
-      ap (λ x. take (n - k) (drop r x)) (bits_of_drop q s)
+      ap (λ x. take (n - k) (drop r (bits_of x))) (take_rest s q)
+      ∙ ap (λ x. take (n - k) (drop r x)) (bits_of_drop q s)
       ∙ ap (take (n - k)) (drop-drop r (8 * q) (bits_of s) ∙ ap (λ i. drop i (bits_of s)) (e ∙ omega arith) ∙ sym (drop-drop k offset (bits_of s)))
       ∙ sym (drop-take k (n - k) (drop offset (bits_of s)))
       ∙ ap (λ j. drop k (take j (drop offset (bits_of s)))) m
@@ -170,3 +171,16 @@ module _ (s : List ℕ) (offset n : ℕ) (h : offset + n ≤ 8 * length s) where
 -- 16 bits write a number of 16 bits, and what is read so far is less
 pub narrow : (bs rest : List ℕ) (v b : ℕ) → AllBelowBase 2 bs → length bs ≤ 16 → number_from_digits_after 2 v (b ∷ rest) ≡ number_from_digits 2 bs → v * 2 + b < 2 ^ 16
 narrow bs rest v b u l e = omega (arith, number_lt 2 bs u, pow_mono {i = length bs} {j = 16} l, number_after_ge 2 (v * 2 + b) rest)
+
+pub window_bits : (s : List ℕ) (i n : ℕ) (w : List ℕ) → Some w ≡ window_at s i n → take n (drop (i % 8) (bits_of w)) ≡ stretch s i n
+window_bits s i n w e = (window_shows s i n w e).same
+
+-- what the code takes from its octets
+pub bit_past : (s : List ℕ) (i : ℕ) → length s ≤ i / 8 → get_or (bits_of s) i 0 ≡ 0
+bit_past s i h = get_or_past (bits_of s) i 0 (omega (arith, length_bits_of s))
+
+pub window_there : (s : List ℕ) (i n : ℕ) → i + n ≤ 8 * length s → Some (take (length s - i / 8) (drop (i / 8) s)) ≡ window_at s i n
+window_there s i n h = ap Some (take_rest s (i / 8)) ∙ sym (cond-true _ _ _ (le-leb _ _ h))
+
+pub value_small : (bs : List ℕ) (v : ℕ) → AllBelowBase 2 bs → v ≡ number_from_digits 2 bs → v < 2 ^ length bs
+value_small bs v u e = omega (arith, number_lt 2 bs u)

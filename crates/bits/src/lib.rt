@@ -27,6 +27,7 @@ fn behind(i: usize) -> usize
 }
 
 // The bit at a place, 0 or 1; behind the last octet every bit is 0.
+#[tactic(auto, using(crate::proofs::BitLaws::bit_at, crate::proofs::BitLaws::bit_past))]
 pub fn bit(octets: &[u8], i: usize) -> u8
     ensures { result ≡ slice_index (bits_of octets.now) i }
 {
@@ -47,6 +48,7 @@ fn reach(i: usize, n: usize) -> usize
 }
 
 // The octets from the one on that the bit i stands in, if all of the n bits from i on lie in the octets.
+#[tactic(auto, using(crate::proofs::BitLaws::window_there))]
 pub(crate) fn window(octets: &[u8], i: usize, n: usize) -> Option<&[u8]>
     ensures { option_map (λ x. x.now) result ≡ window_at octets.now i n }
 {

@@ -13,6 +13,7 @@ const WIDEST: usize = 16;
 
 impl<'a> Bits<'a> {
     // The bits of octets from the bit `start` on, `len` of them; none if the octets do not hold them all.
+    #[tactic(auto, using(crate::proofs::BitLaws::window_bits))]
     pub fn new(octets: &'a [u8], start: usize, len: usize) -> Bits<'a>
         ensures { bits result ≡ stretch octets.now start len }
     {
@@ -31,6 +32,7 @@ impl<'a> Bits<'a> {
     }
 
     // How many they are.
+    #[tactic(auto, using(crate::proofs::BitLaws::length_lying))]
     pub fn len(&self) -> usize
         ensures { result ≡ length (bits self.now) }
     {
@@ -38,6 +40,7 @@ impl<'a> Bits<'a> {
     }
 
     // The first n of them and those behind, if there are so many.
+    #[tactic(auto, using(crate::proofs::BitLaws::length_lying, crate::proofs::BitLaws::front_lying, crate::proofs::BitLaws::back_lying))]
     pub fn split_at(&self, n: usize) -> Option<(Bits<'a>, Bits<'a>)>
         ensures { MatchOption result (length (bits self.now) < n) (λ p. Parts self.now n p.0 p.1) }
     {
@@ -59,6 +62,7 @@ impl<'a> Bits<'a> {
     }
 
     // The first of them and those behind, if there is one.
+    #[tactic(auto, using(crate::proofs::BitLaws::first_lying, crate::proofs::BitLaws::length_lying, crate::proofs::BitLaws::bit_small))]
     pub fn split_first(&self) -> Option<(u8, Bits<'a>)>
         ensures { MatchOption result (bits self.now ≡ []) (λ p. (bits self.now ≡ p.0 ∷ bits p.1) × (p.0 < 2)) }
     {
@@ -74,6 +78,7 @@ impl<'a> Bits<'a> {
     }
 
     // The number that they write.
+    #[tactic(auto, using(crate::proofs::BitLaws::narrow, crate::proofs::BitLaws::value_small, crate::proofs::BitLaws::under_lying))]
     fn value(&self) -> u16
         requires { length (bits self.now) ≤ 16 }
         ensures number { result ≡ number_from_digits 2 (bits self.now) }
