@@ -12,17 +12,6 @@ use vocabulary::trip::TripNumber;
 use wire::message::{Message, Packets};
 use writer::writer::Writer;
 
-// The packets that a walk has before it are added, one after the other, until one is refused.
-fn add_rest(writer: &mut Writer, packets: Packets) -> Result<(), Fault>
-    ensures sent { sent (ahead packets.entry) (draft writer.old) ≡ unless_refused result (draft writer.new).buffer (ended (draft writer.new)) }
-    ensures lender { writer.new.octets.ghost_name ≡ writer.old.octets.ghost_name }
-{
-    for packet in packets {
-        writer.add(&packet)?;
-    }
-    Ok(())
-}
-
 // A message is read, and what it says is written at the front of a buffer; how many octets that has.
 pub fn rewrite_message(octets: &mut [u8], message: &[u8], trip: TripNumber) -> Result<usize, Fault>
     ensures answer { result ≡ (rewritten (trip_of trip) message.now octets.old).answer }
@@ -31,6 +20,8 @@ pub fn rewrite_message(octets: &mut [u8], message: &[u8], trip: TripNumber) -> R
 {
     let read = Message::read(message, trip)?;
     let mut writer = Writer::new(octets, read.sender(), trip);
-    add_rest(&mut writer, read.packets())?;
+    for packet in read.packets() {
+        writer.add(&packet)?;
+    }
     writer.finish()
 }

@@ -2,25 +2,13 @@
 ghost use Rattle.std.specs.Prelude.{◌≡◌, map};
 ghost use Rattle.vocabulary.specs.Settings.{trip_of};
 ghost use Rattle.wire.specs.Packets.{content};
-ghost use Rattle.writer.specs.Writers.{draft};
-ghost use Rattle.roundtrip.specs.Sending.{sent, ended, unless_refused, written};
+ghost use Rattle.roundtrip.specs.Sending.{written};
 ghost use Rattle.roundtrip.specs.RoundTrips.{ReadBack};
 
 use vocabulary::fault::Fault;
 use vocabulary::trip::TripNumber;
 use wire::packet::Packet;
 use writer::writer::Writer;
-
-// The packets are added, one after the other, until one is refused.
-fn add_all(writer: &mut Writer, packets: &[Packet]) -> Result<(), Fault>
-    ensures sent { sent (map content packets.now) (draft writer.old) ≡ unless_refused result (draft writer.new).buffer (ended (draft writer.new)) }
-    ensures lender { writer.new.octets.ghost_name ≡ writer.old.octets.ghost_name }
-{
-    for packet in packets {
-        writer.add(packet)?;
-    }
-    Ok(())
-}
 
 // A message of an STM with these packets, at the front of a buffer; how many octets it has.
 pub fn write_message(
@@ -34,6 +22,8 @@ pub fn write_message(
     ensures law { ReadBack (trip_of trip) sender (map content packets.now) octets.old result octets.new }
 {
     let mut writer = Writer::new(octets, sender, trip);
-    add_all(&mut writer, packets)?;
+    for packet in packets {
+        writer.add(packet)?;
+    }
     writer.finish()
 }

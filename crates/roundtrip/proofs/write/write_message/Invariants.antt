@@ -1,8 +1,10 @@
 use Rattle.std.proofs.Common.{◌≡◌, map, drop}
+use Rattle.vocabulary.specs.Settings.{trip_of}
 use Rattle.wire.specs.Packets.{content}
+use Rattle.writer.specs.Drafts.{started}
 use Rattle.writer.specs.Writers.{draft}
 use Rattle.roundtrip.specs.Sending.{sent}
-use Rattle.roundtrip.proofs.write.add_all.Given as goal
+use Rattle.roundtrip.proofs.write.write_message.Given as goal
 
 abbrev pub invariant-loop-packet : goal.invariant-loop-packet
 invariant-loop-packet l =
