@@ -19,7 +19,7 @@ use Rattle.wire.proofs.MessageLaws.{Sized, sized}
 use Rattle.writer.specs.Encoding.{encode}
 use Rattle.writer.specs.Drafts.{octets_in, padded, room, started}
 use Rattle.writer.proofs.OctetLaws.{Octets, octets_back}
-use Rattle.roundtrip.specs.Sending.{Sent, written, again, rewritten}
+use Rattle.roundtrip.specs.Sending.{written, again, rewritten}
 use Rattle.roundtrip.specs.RoundTrips.{body_of, some_packet, all_writable, acceptable, ReadBack, ZeroPadded, Rewritten}
 use Rattle.roundtrip.proofs.AgainLaws.{Unread, unread}
 use Rattle.roundtrip.proofs.BackLaws.{all_back, some_bits}
@@ -224,16 +224,14 @@ rewritten_law trip m s o r s' e f = record {
   same = λ x q h z. f ∙ same_again trip m s o x q h z;
 }
 
--- the laws, by what the writer left
-pub write_law : (trip : ℕ) → trip < 256 → taken trip ≡ false → (sender : ℕ) (ps : List Packet) (s : List ℕ) (S : Sent) → written sender trip (map content ps) s ≡ S →
-    (r : Result ℕ Fault) (s' last : List ℕ) → r ≡ S.answer → s' ≡ last → last ≡ S.buffer → ReadBack trip sender (map content ps) s r s'
-write_law trip octet free sender ps s S all r s' last e f g =
-    read_back trip octet free sender (map content ps) (under_body trip ps) s r s' (e ∙ sym (ap (λ x. x.answer) all)) (f ∙ g ∙ sym (ap (λ x. x.buffer) all))
+-- the laws, by what was answered and what the buffer then holds
+pub write_law : (trip : ℕ) → trip < 256 → taken trip ≡ false → (sender : ℕ) (ps : List Packet) (s : List ℕ) (r : Result ℕ Fault) (s' : List ℕ) →
+    r ≡ (written sender trip (map content ps) s).answer → s' ≡ (written sender trip (map content ps) s).buffer → ReadBack trip sender (map content ps) s r s'
+write_law trip octet free sender ps s r s' e f = read_back trip octet free sender (map content ps) (under_body trip ps) s r s' e f
 
-pub rewrite_law : (trip : ℕ) (m s : List ℕ) → ((i : ℕ) → Fits w8 (get_or m i 0)) → (S : Sent) → rewritten trip m s ≡ S →
-    (r : Result ℕ Fault) (s' last : List ℕ) → r ≡ S.answer → s' ≡ last → last ≡ S.buffer → Rewritten trip m s r s'
-rewrite_law trip m s o S all r s' last e f g =
-    rewritten_law trip m s (fit_octets m o) r s' (e ∙ sym (ap (λ x. x.answer) all)) (f ∙ g ∙ sym (ap (λ x. x.buffer) all))
+pub rewrite_law : (trip : ℕ) (m s : List ℕ) → ((i : ℕ) → Fits w8 (get_or m i 0)) → (r : Result ℕ Fault) (s' : List ℕ) →
+    r ≡ (rewritten trip m s).answer → s' ≡ (rewritten trip m s).buffer → Rewritten trip m s r s'
+rewrite_law trip m s o r s' e f = rewritten_law trip m s (fit_octets m o) r s' e f
 
 pub through : (x y z : List ℕ) → x ≡ y → y ≡ z → x ≡ z
 through x y z a b = a ∙ b

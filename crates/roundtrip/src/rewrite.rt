@@ -13,6 +13,7 @@ use wire::message::{Message, Packets};
 use writer::writer::Writer;
 
 // A message is read, and what it says is written at the front of a buffer; how many octets that has.
+#[tactic(auto, using(crate::proofs::TripLaws::rewrite_law))]
 pub fn rewrite_message(octets: &mut [u8], message: &[u8], trip: TripNumber) -> Result<usize, Fault>
     ensures answer { result ≡ (rewritten (trip_of trip) message.now octets.old).answer }
     ensures buffer { octets.new ≡ (rewritten (trip_of trip) message.now octets.old).buffer }
