@@ -68,9 +68,6 @@ bit_at (o ∷ os) i h =
     rw (q, r) (bit_at os (i - 8) less ∙ sym (get_or-append_right (field 8 o) (bits_of os) 8 i 0 refl ge)))
     (order i 8)
 
-pub value_more : (bs : List ℕ) (from n : ℕ) → from + n < length bs → value_at bs from (n + 1) ≡ value_at bs from n * 2 + get_or bs (from + n) 0
-value_more bs from n h = number_more 2 (drop from bs) n (simp length-drop (omega arith)) ∙ ap (λ x. value_at bs from n * 2 + x) (get_or-drop from bs n 0)
-
 pub bits_of_append : (xs ys : List ℕ) → bits_of (xs ++ ys) ≡ bits_of xs ++ bits_of ys
 bits_of_append [] ys = refl
 bits_of_append (x ∷ xs) ys = ap (λ l. field 8 x ++ l) (bits_of_append xs ys) ∙ sym (append_assoc (field 8 x) (bits_of xs) (bits_of ys))
@@ -98,9 +95,6 @@ module _ (s : List ℕ) (i n : ℕ) (h : i + n ≤ 8 * length s) where
   pub stretch_lies : stretch s i n ≡ take n (drop i (bits_of s))
   stretch_lies = cond-true _ _ _ (le-leb (i + n) (8 * length s) h)
 
-  pub length_stretch : length (stretch s i n) ≡ n
-  length_stretch = ap length stretch_lies ∙ length-take-le n (drop i (bits_of s)) (omega (arith, length-drop i (bits_of s), length_bits_of s))
-
 under_get_d : (bs : List ℕ) → AllBelowBase 2 bs → (i : ℕ) → get_or bs i 0 < 2
 under_get_d [] u i = omega arith
 under_get_d (b ∷ bs) u zero = u.0
@@ -110,33 +104,15 @@ under_get_d (b ∷ bs) u (suc i) = under_get_d bs u.1 i
 pub bit_small : (s : List ℕ) (i : ℕ) → get_or (bits_of s) i 0 < 2
 bit_small s i = under_get_d (bits_of s) (under_bits_of s) i
 
--- a stretch that has bits has all of its bits
-pub stretch_long : (s : List ℕ) (i n : ℕ) → 0 < length (stretch s i n) → length (stretch s i n) ≡ n
-stretch_long s i n =
-    cond_both _ _ _ (λ l. 0 < length l → length l ≡ n)
-    (λ b _. let lies = leb-true (i + n) (8 * length s) b in length-take-le n (drop i (bits_of s)) (omega (arith, length-drop i (bits_of s), length_bits_of s)))
-    (λ _ h. absurd (omega arith))
-
 -- the bits in a window are those of the stretch that it was made for
-pub record Shows (s : List ℕ) (i n : ℕ) (w : List ℕ) : Type 0 where
-  pub lies : i % 8 + n ≤ 8 * length w
-  pub same : take n (drop (i % 8) (bits_of w)) ≡ stretch s i n
-  pub long : length (stretch s i n) ≡ n
-
-pub shows : (s : List ℕ) (i n : ℕ) → i + n ≤ 8 * length s → Shows s i n (drop (i / 8) s)
-shows s i n h =
+pub window_bits : (s : List ℕ) (i n : ℕ) (w : List ℕ) → Some w ≡ window_at s i n → take n (drop (i % 8) (bits_of w)) ≡ stretch s i n
+window_bits s i n w =
     let e : 8 * (i / 8) + i % 8 ≡ i = omega arith in
-    record {
-      lies = omega (arith, length-drop (i / 8) s);
-      same = ap (λ x. take n (drop (i % 8) x)) (bits_of_drop (i / 8) s) ∙ ap (take n) (drop-drop (i % 8) (8 * (i / 8)) (bits_of s) ∙ ap (λ k. drop k (bits_of s)) e) ∙ sym (stretch_lies s i n h);
-      long = length_stretch s i n h;
-    }
-
-pub window_shows : (s : List ℕ) (i n : ℕ) (w : List ℕ) → Some w ≡ window_at s i n → Shows s i n w
-window_shows s i n w =
-    cond_both _ _ _ (λ o. Some w ≡ o → Shows s i n w)
-    (λ b e. let same : drop (i / 8) s ≡ w = cc in subst (Shows s i n) same (shows s i n (leb-true _ _ b)))
-    (λ _ e. let z : ◌≡◌ {A = ℕ} 0 1 = cc in absurd (omega arith))
+    let all : take n (drop (i % 8) (bits_of (drop (i / 8) s))) ≡ take n (drop i (bits_of s)) =
+    ap (λ x. take n (drop (i % 8) x)) (bits_of_drop (i / 8) s) ∙ ap (take n) (drop-drop (i % 8) (8 * (i / 8)) (bits_of s) ∙ ap (λ k. drop k (bits_of s)) e) in
+    cond_both _ _ _ (λ o. Some w ≡ o → take n (drop (i % 8) (bits_of w)) ≡ stretch s i n)
+    (λ b o. let same : drop (i / 8) s ≡ w = cc in ap (λ x. take n (drop (i % 8) (bits_of x))) (sym same) ∙ all ∙ sym (stretch_lies s i n (leb-true _ _ b)))
+    (λ _ o. cc)
 
 -- the numbers that a part of bits writes
 pub part_value : (bs : List ℕ) (start n i k : ℕ) → i + k ≤ n → value_at (take n (drop start bs)) i k ≡ value_at bs (start + i) k
@@ -171,9 +147,6 @@ module _ (s : List ℕ) (offset n : ℕ) (h : offset + n ≤ 8 * length s) where
 -- 16 bits write a number of 16 bits, and what is read so far is less
 pub narrow : (bs rest : List ℕ) (v b : ℕ) → AllBelowBase 2 bs → length bs ≤ 16 → number_from_digits_after 2 v (b ∷ rest) ≡ number_from_digits 2 bs → v * 2 + b < 2 ^ 16
 narrow bs rest v b u l e = omega (arith, number_lt 2 bs u, pow_mono {i = length bs} {j = 16} l, number_after_ge 2 (v * 2 + b) rest)
-
-pub window_bits : (s : List ℕ) (i n : ℕ) (w : List ℕ) → Some w ≡ window_at s i n → take n (drop (i % 8) (bits_of w)) ≡ stretch s i n
-window_bits s i n w e = (window_shows s i n w e).same
 
 -- what the code takes from its octets
 pub bit_past : (s : List ℕ) (i : ℕ) → length s ≤ i / 8 → get_or (bits_of s) i 0 ≡ 0

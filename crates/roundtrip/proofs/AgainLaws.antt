@@ -99,9 +99,6 @@ pub record Unread (trip : ℕ) (ps : List Content) (bs : List ℕ) : Type 0 wher
   pub same : body_of trip ps ++ pad ≡ bs
   pub can : all_writable trip ps ≡ true
 
-pub some_none : {X : Type 0} (e : X) → ◌≡◌ {A = Option X} (Some e) None → ⊥
-some_none e h = let z : ◌≡◌ {A = ℕ} 0 1 = cc in omega arith
-
 pub unread : (trip turns start : ℕ) (bs : List ℕ) → AllBelowBase 2 bs → length bs ≤ turns → (walk trip turns start bs).stop ≡ None → Unread trip (walk trip turns start bs).packets bs
 unread trip zero start bs u n h = record { pad = bs; short = omega arith; same = refl; can = refl }
 unread trip (suc turns) start bs u n h =
@@ -120,7 +117,7 @@ unread trip (suc turns) start bs u n h =
             same = append_assoc (encode trip p) (body_of trip on.packets) more.pad ∙ (λ i. a.0 i ++ more.same i) ∙ take-append-drop (length_in bs) bs;
             can = and_from _ _ a.1 more.can;
           })
-      | Err d ↦ (λ q stop. absurd (some_none d stop))
+      | Err d ↦ (λ q stop. cc)
     ] e in
     cond_both _ _ _ (λ (w : Walk). w.stop ≡ None → Unread trip w.packets bs)
     (λ lt _. record { pad = bs; short = ltb-true _ _ lt; same = refl; can = refl })

@@ -15,13 +15,8 @@ use Rattle.roundtrip.specs.Sending.{Sent, unless_refused, sent}
 use Rattle.roundtrip.specs.RoundTrips.{body_of, all_writable}
 
 -- an answer decided by two tests
-decided_yes : (a b : Bool) (f g : Fault) (x y : Draft) (u : Unit {0}) → ◌≡◌ {A = Result (Unit {0}) Fault} (Ok u) (cond a (cond b (Ok tt) (Err f)) (Err g)) → cond (a && b) x y ≡ x
-decided_yes true true f g x y u e = refl
-decided_yes true false f g x y u e = absurd (not_read f u (sym e))
-decided_yes false b f g x y u e = absurd (not_read g u (sym e))
-
 decided_no : (a b : Bool) (f g e : Fault) (x y : Draft) → ◌≡◌ {A = Result (Unit {0}) Fault} (Err e) (cond a (cond b (Ok tt) (Err f)) (Err g)) → cond (a && b) x y ≡ y
-decided_no true true f g e x y q = absurd (not_read e tt q)
+decided_no true true f g e x y q = cc
 decided_no true false f g e x y q = refl
 decided_no false b f g e x y q = refl
 

@@ -13,16 +13,13 @@ pub record Sized (s : List ℕ) : Type 0 where
   pub most : length s ≤ 255
   pub stated : get_or s 1 0 ≡ length s
 
-none_some : (e : Fault) → ◌≡◌ {A = Option Fault} (Some e) None → ⊥
-none_some e h = let z : ◌≡◌ {A = ℕ} 0 1 = cc in omega arith
-
 pub sized : (s : List ℕ) → size_fault s ≡ None → Sized s
 sized s =
-    cond_both _ _ _ (λ f. f ≡ None → Sized s) (λ _ h. absurd (none_some _ h))
-    (λ a. cond_both _ _ _ (λ f. f ≡ None → Sized s) (λ _ h. absurd (none_some _ h))
+    cond_both _ _ _ (λ f. f ≡ None → Sized s) (λ _ h. cc)
+    (λ a. cond_both _ _ _ (λ f. f ≡ None → Sized s) (λ _ h. cc)
     (λ b. cond_both _ _ _ (λ f. f ≡ None → Sized s)
     (λ e _. record { least = ltb-false _ _ a; most = ltb-false _ _ b; stated = eqb-true _ _ e })
-    (λ _ h. absurd (none_some _ h))))
+    (λ _ h. cc)))
 
 -- the bits behind the first two octets
 pub body_is : (s : List ℕ) (n : ℕ) → n ≡ 8 * length s - 16 → stretch s 16 n ≡ body_bits s

@@ -10,25 +10,10 @@ use Rattle.wire.specs.declared.kind.Kind.{Kind}
 use Rattle.wire.specs.declared.kind.Kind.TheVariants as kind
 use Rattle.wire.specs.declared.packet.Packet.{Packet}
 
--- the answer to each check
-module _ (trip start : ℕ) (bs : List ℕ) where
-  pub read_short : length bs < 21 → read_packet trip start bs ≡ Err (cut start)
-  read_short h = cond-true _ _ _ (lt-ltb _ _ h)
-
-  module _ (a : 21 ≤ length bs) where
-    pub read_small : length_in bs < 21 → read_packet trip start bs ≡ Err (misfit start)
-    read_small h = cond-false _ _ _ (le-ltb _ _ a) ∙ cond-true _ _ _ (lt-ltb _ _ h)
-
-    module _ (b : 21 ≤ length_in bs) where
-      pub read_long : length bs < length_in bs → read_packet trip start bs ≡ Err (cut start)
-      read_long h = cond-false _ _ _ (le-ltb _ _ a) ∙ cond-false _ _ _ (le-ltb _ _ b) ∙ cond-true _ _ _ (lt-ltb _ _ h)
-
-      module _ (d : length_in bs ≤ length bs) where
-        pub read_wrong : may_have (kind_in trip bs) (length_in bs) ≡ false → read_packet trip start bs ≡ Err (misfit start)
-        read_wrong h = cond-false _ _ _ (le-ltb _ _ a) ∙ cond-false _ _ _ (le-ltb _ _ b) ∙ cond-false _ _ _ (le-ltb _ _ d) ∙ cond-false _ _ _ h
-
-        pub read_whole : may_have (kind_in trip bs) (length_in bs) ≡ true → read_packet trip start bs ≡ Ok (content_in (kind_in trip bs) (length_in bs) bs)
-        read_whole h = cond-false _ _ _ (le-ltb _ _ a) ∙ cond-false _ _ _ (le-ltb _ _ b) ∙ cond-false _ _ _ (le-ltb _ _ d) ∙ cond-true _ _ _ h
+-- a packet that passes each check is read
+pub read_whole : (trip start : ℕ) (bs : List ℕ) → 21 ≤ length bs → 21 ≤ length_in bs → length_in bs ≤ length bs → may_have (kind_in trip bs) (length_in bs) ≡ true →
+    read_packet trip start bs ≡ Ok (content_in (kind_in trip bs) (length_in bs) bs)
+read_whole trip start bs a b d h = cond-false _ _ _ (le-ltb _ _ a) ∙ cond-false _ _ _ (le-ltb _ _ b) ∙ cond-false _ _ _ (le-ltb _ _ d) ∙ cond-true _ _ _ h
 
 -- a packet says what the bits say that it is the front of
 content_front : (k : Option Kind) (n : ℕ) (bs : List ℕ) → may_have k n ≡ true → content_in k n (take n bs) ≡ content_in k n bs

@@ -13,7 +13,7 @@ use Rattle.wire.specs.declared.message.Packets.{Packets}
 use Rattle.vocabulary.specs.Settings.{trip_of}
 
 pub not_read : {X : Type 0} (e : Fault) (p : X) → ◌≡◌ {A = Result X Fault} (Err e) (Ok p) → ⊥
-not_read e p h = let z : ◌≡◌ {A = ℕ} 0 1 = cc in omega arith
+not_read e p h = cc
 
 pub same_ok : {X : Type 0} (p q : X) → ◌≡◌ {A = Result X Fault} (Ok p) (Ok q) → p ≡ q
 same_ok p q h = cc
@@ -28,12 +28,12 @@ pub record WasRead (trip : ℕ) (bs : List ℕ) (p : Content) : Type 0 where
 
 pub was_read : (trip start : ℕ) (bs : List ℕ) (p : Content) → read_packet trip start bs ≡ Ok p → WasRead trip bs p
 was_read trip start bs p =
-    cond_both _ _ _ (λ r. r ≡ Ok p → WasRead trip bs p) (λ _ h. absurd (not_read _ p h))
-    (λ a. cond_both _ _ _ (λ r. r ≡ Ok p → WasRead trip bs p) (λ _ h. absurd (not_read _ p h))
-    (λ b. cond_both _ _ _ (λ r. r ≡ Ok p → WasRead trip bs p) (λ _ h. absurd (not_read _ p h))
+    cond_both _ _ _ (λ r. r ≡ Ok p → WasRead trip bs p) (λ _ h. cc)
+    (λ a. cond_both _ _ _ (λ r. r ≡ Ok p → WasRead trip bs p) (λ _ h. cc)
+    (λ b. cond_both _ _ _ (λ r. r ≡ Ok p → WasRead trip bs p) (λ _ h. cc)
     (λ d. cond_both _ _ _ (λ r. r ≡ Ok p → WasRead trip bs p)
     (λ f h. record { enough = ltb-false _ _ a; least = ltb-false _ _ b; within = ltb-false _ _ d; own = f; is = same_ok _ _ h })
-    (λ _ h. absurd (not_read _ p h)))))
+    (λ _ h. cc))))
 
 pub walk_end : (trip turns start : ℕ) (bs : List ℕ) → length bs < 8 → walk trip turns start bs ≡ ended
 walk_end trip zero start bs h = refl

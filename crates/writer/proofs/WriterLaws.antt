@@ -50,18 +50,6 @@ length_written w =
     length-append (bits_of (take w.full s)) (field w.count w.waiting)
     ∙ omega (arith, length_bits_of (take w.full s), length-take-le w.full s (omega (arith, w.lies, length-drop 2 w.octets.now)), length_field w.count w.waiting)
 
-pub adds_none : (w : Writer) (bs : List ℕ) → bs ≡ [] → Adds w bs w
-adds_none w bs e = record {
-  sender = refl;
-  trip = refl;
-  bits = sym (append-nil (written w)) ∙ ap (λ l. written w ++ l) (sym e);
-  size = refl;
-  lender = refl;
-  on = omega arith;
-  front = refl;
-  behind = refl;
-}
-
 pub further : (k n : ℕ) (xs ys : List ℕ) → k ≤ n → drop k xs ≡ drop k ys → drop n xs ≡ drop n ys
 further k n xs ys h e =
     let m : k + (n - k) ≡ n = omega arith in

@@ -26,7 +26,7 @@ fn wrong_length(place: usize) -> Fault
 fn check_length(octets: &[u8]) -> Result<(), Fault>
     ensures { result_err result ≡ size_fault octets.now }
 {
-    if octets.len() < LEAST || octets.len() > MOST {
+    if !(LEAST..=MOST).contains(&octets.len()) {
         return Err(wrong_length(0));
     }
     if usize::from(octets[COUNT]) != octets.len() {
