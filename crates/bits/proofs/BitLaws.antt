@@ -3,7 +3,7 @@ use Rattle.std.proofs.Common.{◌≡◌, ℕ, zero, suc, ◌+◌, ◌-◌, ◌*�
 use Rattle.std.proofs.str.Laws.{order}
 use Rattle.std.proofs.lemmas.List.{get_or_append_left, get_or-append_right, get_or-take, get_or_past, drop-take, take_rest}
 use Rattle.std.specs.Int.Digits.{number_from_digits, number_from_digits_after, AllBelowBase}
-use Rattle.std.proofs.lemmas.Int.Digits.{number_push, number_more, number_lt, number_after_ge}
+use Rattle.std.proofs.lemmas.Int.Digits.{number_push, number_lt, number_after_ge}
 use Rattle.std.proofs.ByRecursion.{All-append, All-take, All-drop}
 use Rattle.std.proofs.lemmas.Bool.{cond-true, cond_both, le-leb, leb-true}
 use Rattle.bits.specs.Bits.{field, bits_of, value_at, stretch, window_at}

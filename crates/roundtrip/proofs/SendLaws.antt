@@ -1,5 +1,5 @@
 -- When a message is written, and what then stands in the buffer.
-use Rattle.std.proofs.Common.{◌≡◌, ℕ, zero, suc, ◌+◌, ◌-◌, ◌*◌, ◌/◌, ◌<◌, ◌≤◌, min, Bool, true, false, cond, not, ◌&&◌, eqb, leb, List, [], ◌∷◌, ◌++◌, length, take, drop, replicate, is_ok, Some, None, Ok, Err, Result, sym, refl, ap, ◌∙◌, append_assoc, append-nil, add-zero, arith, length-append, length-drop, length-take, drop_at}
+use Rattle.std.proofs.Common.{◌≡◌, ℕ, zero, suc, ◌+◌, ◌-◌, ◌*◌, ◌/◌, ◌<◌, ◌≤◌, min, Bool, true, false, cond, not, ◌&&◌, eqb, leb, List, [], ◌∷◌, ◌++◌, length, take, drop, replicate, is_ok, Ok, Err, Result, sym, refl, ap, ◌∙◌, append_assoc, append-nil, add-zero, arith, length-append, length-drop, length-take, drop_at}
 use Rattle.std.proofs.lemmas.Bool.{cond-true, cond-false, and_parts, and_from, and_right, le-leb, lt-leb, leb-true, leb-false, ne_eqb}
 use Rattle.vocabulary.specs.Refusals.{fault_at}
 use Rattle.vocabulary.specs.declared.fault.Fault.{Fault}
@@ -7,7 +7,6 @@ use Rattle.vocabulary.specs.declared.fault.Layer.TheVariants as layer
 use Rattle.vocabulary.specs.declared.fault.Refusal.TheVariants as refusal
 use Rattle.wire.specs.Messages.{wrong_length}
 use Rattle.wire.specs.Packets.{Content}
-use Rattle.wire.proofs.WalkLaws.{not_read}
 use Rattle.writer.specs.Encoding.{encode, writable}
 use Rattle.writer.specs.Drafts.{Draft, octets_in, whole, padded, placed, extended, room, has_room, add_answer, added, message_of, finish_answer}
 use Rattle.writer.proofs.WriterLaws.{further}

@@ -5,7 +5,7 @@ use Rattle.std.specs.Int.Digits.{AllBelowBase}
 use Rattle.std.specs.List.{AllByRecursion}
 use Rattle.std.proofs.ByRecursion.{All-append, All-take, All-drop, All-from_get_or}
 use Rattle.std.proofs.lemmas.List.{take-replicate, replicate-append-replicate}
-use Rattle.std.proofs.lemmas.Bool.{cond_both, cond-true, cond-false, and_parts, and_right, le-ltb, eq-eqb, ne_eqb, leb-true, false≢true}
+use Rattle.std.proofs.lemmas.Bool.{cond-true, cond-false, and_parts, and_right, le-ltb, eq-eqb, ne_eqb, leb-true, false≢true}
 use Rattle.vocabulary.specs.Trips.{taken}
 use Rattle.vocabulary.specs.declared.fault.Fault.{Fault}
 use Rattle.bits.specs.Bits.{field, bits_of}

@@ -1,11 +1,10 @@
 -- How octets are read as a message.
-use Rattle.std.proofs.Common.{◌≡◌, ℕ, ◌-◌, ◌*◌, ◌≤◌, List, length, get_or, drop, None, Some, Option, sym, arith, length-drop}
+use Rattle.std.proofs.Common.{◌≡◌, ℕ, ◌-◌, ◌*◌, ◌≤◌, List, length, get_or, drop, None, sym, arith, length-drop}
 use Rattle.std.proofs.lemmas.List.{drop_all, take_all}
 use Rattle.std.proofs.lemmas.Bool.{cond_both, ltb-false, eqb-true, leb-false}
 use Rattle.bits.specs.Bits.{bits_of, stretch}
 use Rattle.bits.proofs.BitLaws.{length_bits_of}
-use Rattle.vocabulary.specs.declared.fault.Fault.{Fault}
-use Rattle.wire.specs.Messages.{Reading, walked, body_bits, size_fault, unless, read_message}
+use Rattle.wire.specs.Messages.{body_bits, size_fault}
 
 -- the length of a message is right
 pub record Sized (s : List ℕ) : Type 0 where

@@ -1,10 +1,10 @@
 -- What the reader makes of a packet's bits.
-use Rattle.std.proofs.Common.{◌≡◌, ℕ, ◌<◌, ◌≤◌, true, false, List, length, take, Some, None, Ok, Err, Option, sym, refl, ap, ◌∙◌, le_refl, arith, length-take-le, take-take}
-use Rattle.std.proofs.lemmas.Bool.{cond-true, cond-false, lt-ltb, le-ltb, eqb-true}
+use Rattle.std.proofs.Common.{◌≡◌, ℕ, ◌≤◌, true, List, length, take, Some, None, Ok, Option, sym, refl, ap, ◌∙◌, le_refl, arith, length-take-le, take-take}
+use Rattle.std.proofs.lemmas.Bool.{cond-true, cond-false, le-ltb, eqb-true}
 use Rattle.vocabulary.specs.Numbers.{case_of}
 use Rattle.bits.proofs.BitLaws.{part_value}
 use Rattle.wire.specs.Kinds.{kind_number, kinds}
-use Rattle.wire.specs.Packets.{version, status, request, order, report, other, content, kind_in, may_have, content_in, length_in, read_packet, cut, misfit}
+use Rattle.wire.specs.Packets.{version, status, request, order, report, other, content, kind_in, may_have, content_in, length_in, read_packet}
 use Rattle.wire.specs.Readers.{Headed}
 use Rattle.wire.specs.declared.kind.Kind.{Kind}
 use Rattle.wire.specs.declared.kind.Kind.TheVariants as kind

@@ -1,5 +1,5 @@
 -- The walk over packets, one step and its end.
-use Rattle.std.proofs.Common.{◌≡◌, ℕ, zero, suc, ◌+◌, ◌<◌, ◌≤◌, true, cond, List, [], length, drop, Some, None, Option, Ok, Err, Result, sym, refl, ap, ◌∙◌, le_refl, arith, length-drop, drop-drop}
+use Rattle.std.proofs.Common.{◌≡◌, ℕ, zero, suc, ◌+◌, ◌<◌, ◌≤◌, true, cond, List, [], length, drop, Some, None, Option, Ok, Err, Result, sym, refl, ap, ◌∙◌, le_refl, arith, length-drop}
 use Rattle.std.proofs.lemmas.Bool.{cond-true, cond-false, cond_both, lt-ltb, le-ltb, ltb-false}
 use Rattle.vocabulary.specs.declared.fault.Fault.{Fault}
 use Rattle.wire.specs.Packets.{Content, content, kind_in, may_have, content_in, length_in, read_packet, told}

@@ -1,9 +1,8 @@
 -- What a writer's calls leave, octet by octet.
-use Rattle.std.proofs.Common.{◌≡◌, ℕ, suc, ◌+◌, ◌-◌, ◌*◌, ◌/◌, ◌^◌, ◌<◌, ◌≤◌, min, true, false, List, [], ◌∷◌, ◌++◌, length, take, drop, set, replicate, Ok, sym, refl, ap, ◌∙◌, append_assoc, arith, length-drop, length-take-le, drop-drop}
+use Rattle.std.proofs.Common.{◌≡◌, ℕ, suc, ◌+◌, ◌-◌, ◌*◌, ◌/◌, ◌^◌, ◌<◌, ◌≤◌, min, true, List, [], ◌∷◌, ◌++◌, length, take, drop, set, replicate, Ok, sym, refl, ap, ◌∙◌, append_assoc, arith, length-drop, length-take-le, drop-drop}
 use Rattle.std.proofs.lemmas.List.{take-append-drop}
 use Rattle.std.proofs.lemmas.Bool.{cond-true, le-leb, and_from}
 use Rattle.vocabulary.specs.Settings.{trip_of}
-use Rattle.vocabulary.specs.Trips.{taken}
 use Rattle.bits.specs.Bits.{field, bits_of}
 use Rattle.wire.specs.Packets.{Content}
 use Rattle.writer.specs.Encoding.{encode, writable}

@@ -1,9 +1,7 @@
 -- What a writer holds after one bit more, and after several.
-use Rattle.std.proofs.Common.{◌≡◌, ℕ, zero, suc, ◌+◌, ◌-◌, ◌*◌, ◌/◌, ◌%◌, ◌^◌, ◌<◌, ◌≤◌, min, List, [], ◌∷◌, ◌++◌, length, get_or, take, drop, set, sym, refl, ap, ◌∙◌, subst, ⊎_elim, append_assoc, append-nil, pow-suc, add-one, arith, length-append, length-drop, length-take-le, drop-drop}
-use lib.Seq.{get_or_at}
+use Rattle.std.proofs.Common.{◌≡◌, ℕ, suc, ◌+◌, ◌-◌, ◌*◌, ◌/◌, ◌%◌, ◌^◌, ◌<◌, ◌≤◌, min, List, [], ◌∷◌, ◌++◌, length, take, drop, set, sym, ap, ◌∙◌, subst, append_assoc, append-nil, pow-suc, add-one, arith, length-append, length-drop, length-take-le, drop-drop}
 use Rattle.std.proofs.lemmas.Nat.{shr-shr}
-use Rattle.std.proofs.lemmas.List.{take_more_set, take-set, get_or_append_left, drop-set-add}
-use Rattle.std.proofs.lemmas.Bool.{cases_lt}
+use Rattle.std.proofs.lemmas.List.{take_more_set, take-set, drop-set-add}
 use Rattle.bits.specs.Bits.{field, bits_of}
 use Rattle.bits.proofs.BitLaws.{length_field, length_bits_of, bits_of_append}
 use Rattle.wire.specs.declared.kind.Kind.{Kind}

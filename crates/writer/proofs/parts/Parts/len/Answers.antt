@@ -1,4 +1,4 @@
-use Rattle.std.proofs.Common.{◌+◌, length, sym, ap, ◌∙◌, arith}
+use Rattle.std.proofs.Common.{length, ap, arith}
 use Rattle.writer.specs.Coding.{coded}
 use Rattle.writer.proofs.WriterLaws.{packed_size}
 use Rattle.writer.proofs.parts.Parts.len.Goals as goal

@@ -1,4 +1,4 @@
-use Rattle.std.proofs.Common.{◌≡◌, ℕ, ◌<◌, List, length, sym, ap, subst, arith}
+use Rattle.std.proofs.Common.{length, sym, ap, subst, arith}
 use Rattle.std.specs.Int.Digits.{AllBelowBase}
 use Rattle.bits.proofs.BitLaws.{under_lying}
 use Rattle.writer.proofs.WriterLaws.{adds_both, room_after}
