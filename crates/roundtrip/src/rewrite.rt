@@ -1,15 +1,12 @@
 // Reading a message and writing it again.
 ghost use Rattle.std.specs.Prelude.{◌≡◌};
 ghost use Rattle.vocabulary.specs.Settings.{trip_of};
-ghost use Rattle.wire.specs.Walkers.{reading, ahead};
-ghost use Rattle.writer.specs.Drafts.{started};
-ghost use Rattle.writer.specs.Writers.{draft};
-ghost use Rattle.roundtrip.specs.Sending.{sent, ended, unless_refused, rewritten};
+ghost use Rattle.roundtrip.specs.Sending.{rewritten};
 ghost use Rattle.roundtrip.specs.RoundTrips.{Rewritten};
 
 use vocabulary::fault::Fault;
 use vocabulary::trip::TripNumber;
-use wire::message::{Message, Packets};
+use wire::message::Message;
 use writer::writer::Writer;
 
 // A message is read, and what it says is written at the front of a buffer; how many octets that has.

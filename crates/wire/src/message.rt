@@ -15,6 +15,11 @@ pub const MOST: usize = 255;
 
 pub const HEAD: usize = 2;
 
+// Where the number of the STM stands, and how many octets there are.
+pub const SENDER: usize = 0;
+
+pub const COUNT: usize = 1;
+
 // A message that was found right: the number of its STM, and a walk over its packets.
 #[derive(Clone, Copy)]
 pub struct Message<'a> {

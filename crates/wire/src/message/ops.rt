@@ -5,13 +5,9 @@ ghost use Rattle.vocabulary.specs.Settings.{trip_of};
 ghost use Rattle.wire.specs.Messages.{read_message, size_fault, wrong_length};
 ghost use Rattle.wire.specs.Walkers.{reading, heard, ahead};
 
-use super::{LEAST, MOST, Message, Packets};
+use super::{COUNT, LEAST, MOST, Message, Packets, SENDER};
 use vocabulary::fault::{Fault, Layer, Refusal};
 use vocabulary::trip::TripNumber;
-
-const SENDER: usize = 0;
-
-const COUNT: usize = 1;
 
 const LENGTH_BIT: usize = 8;
 

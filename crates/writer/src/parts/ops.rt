@@ -1,8 +1,6 @@
 // Packets by what they are written as.
 ghost use Rattle.std.specs.Prelude.{◌≡◌, ℕ, ◌^◌, ◌≤◌, length, nat_lt};
 ghost use Rattle.vocabulary.specs.Settings.{trip_of};
-ghost use Rattle.wire.specs.Packets.{content};
-ghost use Rattle.writer.specs.Encoding.{encode, writable};
 ghost use Rattle.writer.specs.Coding.{coded, sound, Codes};
 
 use super::{Field, Parts};

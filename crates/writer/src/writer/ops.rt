@@ -1,10 +1,6 @@
 // Starting, adding to and finishing a message.
 ghost use Rattle.std.specs.Prelude.{◌≡◌, ◌+◌, ◌-◌, ◌*◌, ◌^◌, ◌<◌, ◌≤◌, min, length, ◌==◌};
-ghost use Rattle.vocabulary.specs.Refusals.{fault_at};
 ghost use Rattle.vocabulary.specs.Settings.{trip_of};
-ghost use Rattle.vocabulary.specs.declared.fault.Layer.TheVariants as layer;
-ghost use Rattle.vocabulary.specs.declared.fault.Refusal.TheVariants as refusal;
-ghost use Rattle.wire.specs.Messages.{wrong_length};
 ghost use Rattle.wire.specs.Packets.{content};
 ghost use Rattle.writer.specs.Drafts.{started, add_answer, added, finish_answer, finished, room};
 ghost use Rattle.writer.specs.Writers.{written, draft, Pads};
@@ -14,12 +10,8 @@ use crate::parts::Parts;
 use bits::OCTET;
 use vocabulary::fault::{Fault, Layer, Refusal};
 use vocabulary::trip::TripNumber;
-use wire::message::{HEAD, MOST};
+use wire::message::{COUNT, HEAD, MOST, SENDER};
 use wire::packet::Packet;
-
-const SENDER: usize = 0;
-
-const COUNT: usize = 1;
 
 // The first bits of an octet, with zeros behind them.
 fn filled(waiting: u8, count: usize) -> u8
