@@ -1,54 +1,50 @@
 -- A text read character by character.
-use Rattle.std.proofs.Common.{◌≡◌, ℕ, zero, suc, ◌+◌, ◌-◌, ◌<◌, ◌≤◌, true, false, cond, eqb, leb, List, [], ◌∷◌, ◌++◌, length, get_or, take, drop, set, Some, None, Option, sym, refl, ap, ◌∙◌, append_assoc, append-nil, arith, length-append, length-take}
+use Rattle.std.specs.List.{slice_split, onto_first, before_first, after_first, position, position_or_len}
+use Rattle.std.proofs.lemmas.List.Elements.{All-from_get_or}
+use Rattle.std.proofs.lemmas.List.Sums.{fails_before_first}
+use Rattle.std.proofs.lemmas.List.Splits.{slice_split_first, slice_split_none}
+use Rattle.std.proofs.Common.{ltb-true, ltb-false, Bool, ltb, not, ◌≡◌, ℕ, zero, suc, ◌+◌, ◌-◌, ◌<◌, ◌≤◌, true, false, cond, eqb, leb, List, [], ◌∷◌, ◌++◌, length, get_or, take, drop, set, Some, None, Option, sym, refl, ap, ◌∙◌, append_assoc, append-nil, arith, length-append, length-take}
 use Rattle.std.specs.Option.{option_map}
 use Rattle.std.proofs.lemmas.List.{at_drop_more, at_drop_all, take_more_set, take_rest, take_all}
-use Rattle.script.specs.Text.{first_part, other_parts, add_digits, number, octet, octets}
+use Rattle.script.specs.Text.{first_part, other_parts, parts, add_digits, number, octet, octets}
 use Rattle.std.proofs.lemmas.Bool.Decides.{nat_tests}
 use Rattle.vocabulary.specs.Octets.{sized}
 use Rattle.script.specs.Grammar.{onto, sized_octets, numbers, call, called, reading}
-use Rattle.script.specs.Meaning.{behind}
 
 -- at most 255 of them
 abbrev few : Option (List ℕ) → Option (List ℕ)
 few r = onto r (sized 255)
 
--- the first part ends at a blank
-pub part_here : (xs : List ℕ) (i : ℕ) → i < length xs → eqb (get_or xs i 0) 32 ≡ true → length (first_part (drop i xs)) ≡ 0
-part_here xs i h e = at_drop_more (λ ys. length (first_part ys)) xs i 0 h ∙ rw e
+abbrev blank : ℕ → Bool
+blank c = eqb c 32
 
--- and goes on behind any other character
-pub part_on : (xs : List ℕ) (i : ℕ) → i < length xs → eqb (get_or xs i 0) 32 ≡ false
-    → length (first_part (drop i xs)) ≡ 1 + length (first_part (drop (i + 1) xs))
-part_on xs i h e = at_drop_more (λ ys. length (first_part ys)) xs i 0 h ∙ rw e (omega arith)
+-- the parts are those of std's split
+parts_split : (xs : List ℕ) → parts xs ≡ slice_split blank xs
+parts_split [] = refl
+parts_split (c ∷ cs) =
+    elim (eqb c 32) as (λ b. cond b [] (c ∷ first_part cs) ∷ cond b (parts cs) (other_parts cs) ≡ cond b ([] ∷ slice_split blank cs) (onto_first c (slice_split blank cs)))
+    [ true ↦ ap (λ ps. [] ∷ ps) (parts_split cs) | false ↦ ap (onto_first c) (parts_split cs) ]
 
-pub part_end : (xs : List ℕ) (i : ℕ) → length xs ≤ i → length (first_part (drop i xs)) ≡ 0
-part_end xs i h = at_drop_all (λ ys. length (first_part ys)) xs i h
+-- the first part ends at the first blank, and the others stand behind it
+pub cut_at : (xs : List ℕ) (i : ℕ) → Some i ≡ position blank xs → parts xs ≡ take i xs ∷ parts (take (length xs - (i + 1)) (drop (i + 1) xs))
+cut_at xs i e = step (ltb (position_or_len blank xs) (length xs)) refl e ∙ ap (λ ys. take i xs ∷ parts ys) (sym (take_rest xs (i + 1)))
+  where
+    step : (b : Bool) → ltb (position_or_len blank xs) (length xs) ≡ b → Some i ≡ cond b (Some (position_or_len blank xs)) None → parts xs ≡ take i xs ∷ parts (drop (i + 1) xs)
+    step true h q =
+        let here : i ≡ position_or_len blank xs = cc in
+        let inside : position_or_len blank xs < length xs = ltb-true _ _ h in
+        rw here (parts_split xs ∙ slice_split_first blank xs 0 inside ∙ ap (λ ps. before_first blank xs ∷ ps) (sym (parts_split (after_first blank xs))))
+    step false h q = cc
 
--- the first part is a front of the text, and the others stand behind it
-pub part_front : (xs : List ℕ) → take (length (first_part xs)) xs ≡ first_part xs
-part_front [] = refl
-part_front (c ∷ cs) = elim (eqb c 32) as (λ b. take (length (cond b [] (c ∷ first_part cs))) (c ∷ cs) ≡ cond b [] (c ∷ first_part cs))
-    [ true ↦ refl | false ↦ ap (λ ys. c ∷ ys) (part_front cs) ]
-
-pub part_within : (xs : List ℕ) → length (first_part xs) ≤ length xs
-part_within [] = omega arith
-part_within (c ∷ cs) = elim (eqb c 32) as (λ b. length (cond b [] (c ∷ first_part cs)) ≤ length (c ∷ cs))
-    [ true ↦ omega arith | false ↦ omega (arith, part_within cs) ]
-
-pub parts_behind : (xs : List ℕ) → other_parts xs ≡ behind (drop (length (first_part xs)) xs)
-parts_behind [] = refl
-parts_behind (c ∷ cs) =
-    elim (eqb c 32) as (λ b. cond b (first_part cs ∷ other_parts cs) (other_parts cs) ≡ behind (drop (length (cond b [] (c ∷ first_part cs))) (c ∷ cs)))
-    [ true ↦ refl | false ↦ parts_behind cs ]
-
--- behind the blank stands the next part, and behind that the others
-pub next_part : (xs ys part rest : List ℕ) → 1 ≤ length xs → ys ≡ take (length xs - 1) (drop 1 xs)
-    → part ≡ first_part ys → rest ≡ drop (length (first_part ys)) ys → behind xs ≡ part ∷ behind rest
-next_part [] ys part rest h e p r = absurd (omega arith)
-next_part (c ∷ cs) ys part rest h e p r =
-    let whole : ys ≡ cs = e ∙ take_rest (c ∷ cs) 1 in
-    let others : behind rest ≡ other_parts cs = ap behind r ∙ ap (λ zs. behind (drop (length (first_part zs)) zs)) whole ∙ sym (parts_behind cs) in
-    rw (p, whole, others)
+-- a text with no blank is one part
+pub uncut : (xs : List ℕ) → None ≡ position blank xs → parts xs ≡ xs ∷ []
+uncut xs e = step (ltb (position_or_len blank xs) (length xs)) refl e
+  where
+    step : (b : Bool) → ltb (position_or_len blank xs) (length xs) ≡ b → None ≡ cond b (Some (position_or_len blank xs)) None → parts xs ≡ xs ∷ []
+    step true h q = cc
+    step false h q =
+        let end = ltb-false _ _ h in
+        parts_split xs ∙ slice_split_none blank xs (All-from_get_or (λ c. blank c ≡ false) xs 0 (λ k l. fails_before_first blank xs k 0 (omega arith)))
 
 -- a digit that does not fit ends the number, and one that does leads on
 pub digits_on : (value : ℕ) (xs : List ℕ) (i : ℕ) → i < length xs
@@ -105,13 +101,3 @@ called_one [] ps h = absurd (omega arith)
 called_one (c ∷ []) ps h = refl
 called_one (c ∷ (d ∷ cs)) ps h = absurd (omega arith)
 
--- the call behind the first part of a line that is not too long
-pub reads : (line first : List ℕ) (c : ℕ) → leb (length line) 512 ≡ true → first ≡ first_part line → length first ≡ 1 → c ≡ get_or first 0 0
-    → call c (behind (take (length line - length first) (drop (length first) line))) ≡ reading line
-reads line first c short e l f =
-    let rest : behind (take (length line - length first) (drop (length first) line)) ≡ other_parts line =
-    ap behind (take_rest line (length first)) ∙ ap (λ xs. behind (drop (length xs) line)) e ∙ sym (parts_behind line) in
-    rw (rest, f, ← called_one first (other_parts line) l, e, short)
-
-pub too_long : (line : List ℕ) → leb (length line) 512 ≡ false → None ≡ reading line
-too_long line long = rw long

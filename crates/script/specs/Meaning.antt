@@ -1,21 +1,22 @@
 -- What the values of the code mean.
-use Rattle.std.specs.Prelude.{ℕ, List, [], ◌∷◌, take}
+use Rattle.std.specs.Prelude.{ℕ, List, [], take, Some, None, Option}
+use Rattle.std.specs.Borrow.{Bor}
 use Rattle.vocabulary.specs.Octets.{octets_of}
-use Rattle.script.specs.Text.{first_part, other_parts}
+use Rattle.script.specs.Text.{parts}
 use Rattle.script.specs.Grammar.{Said, anew, connected, lost, lost_for_good, came, status, announced, train_data, ticks, power_off}
 use Rattle.script.specs.declared.event.Event.{Event}
 use Rattle.script.specs.declared.event.Event.TheVariants as event
 use Rattle.script.specs.declared.numbers.Numbers.{Numbers}
 use Rattle.script.specs.declared.parts.Parts.{Parts}
 
--- The parts behind a part that has been read: none at the end of the line, else those behind the blank.
-abbrev pub behind : List ℕ → List (List ℕ)
-behind [] = []
-behind (c ∷ cs) = first_part cs ∷ other_parts cs
+-- The parts of the text that stands behind a part: none if the part ends the line.
+abbrev pub behind : Option (Bor (List ℕ)) → List (List ℕ)
+behind (Some text) = parts text.now
+behind None = []
 
 -- The parts that are to come.
 abbrev pub to_come : Parts → List (List ℕ)
-to_come p = behind p.rest.now
+to_come p = behind p.rest
 
 -- The numbers, in their order.
 abbrev pub numbers_of : Numbers → List ℕ

@@ -12,6 +12,10 @@ abbrev pub other_parts : List ℕ → List (List ℕ)
 other_parts [] = []
 other_parts (c ∷ cs) = cond (c == 32) (first_part cs ∷ other_parts cs) (other_parts cs)
 
+-- All parts.
+abbrev pub parts : List ℕ → List (List ℕ)
+parts text = first_part text ∷ other_parts text
+
 -- A number, with a digit more: none if the character is no digit, 48 to 57, or the number passes 65535.
 abbrev pub add_digit : ℕ → ℕ → Option ℕ
 add_digit value c = cond (nat_le 48 c && (nat_le c 57 && nat_le (10 * value + (c - 48)) 65535)) (Some (10 * value + (c - 48))) None

@@ -1,63 +1,55 @@
 // The parts of a line.
-ghost use Rattle.std.specs.Prelude.{◌≡◌, ◌≤◌, List, [], ◌∷◌, length, drop, MatchOption, ◌==◌};
-ghost use Rattle.script.specs.Text.{first_part};
-ghost use Rattle.script.specs.Meaning.{to_come};
+ghost use Rattle.std.specs.Prelude.{◌≡◌, ◌∷◌, [], ◌==◌, position};
+ghost use Rattle.std.specs.Iterator.{YieldsFirstRef, item_count};
+ghost use Rattle.script.specs.Text.{parts};
+ghost use Rattle.script.specs.Meaning.{behind, to_come};
 
 // What parts a line from what stands before it.
 const BLANK: u8 = b' ';
 
-// The parts that are to come: `rest` begins with the blank that ends the part before.
-#[derive(Clone, Copy)]
+// The parts that are to come. `rest` is the text that begins with the next one.
+#[derive(Clone, Copy, Drop)]
 pub struct Parts<'a> {
-    pub rest: &'a [u8],
+    rest: Option<&'a [u8]>,
 }
 
-// Whether a character ends a part.
-fn is_blank(c: u8) -> bool
-    ensures { result ≡ (c == 32) }
+// Where the first blank stands.
+fn blank_in(text: &[u8]) -> Option<usize>
+    ensures { result ≡ position (λ c. c == 32) text.now }
 {
-    c == BLANK
+    text.iter().position(|c| *c == BLANK)
 }
 
-// How many characters stand before the first blank, or before the end.
-fn part_length(text: &[u8]) -> usize
-    ensures value { result ≡ length (first_part text.now) }
-    ensures within { result ≤ length text.now }
+#[tactic(auto, using(crate::proofs::Reading::cut_at, crate::proofs::Reading::uncut))]
+// The first part of a text, and the text behind the blank that ends it, if one does.
+fn cut(text: &[u8]) -> (&[u8], Option<&[u8]>)
+    ensures { parts text.now ≡ result.0.now ∷ behind result.1 }
 {
-    for (i, c) in text.iter().enumerate() {
-        if is_blank(*c) {
-            return i;
-        }
+    match blank_in(text) {
+        Some(end) => (&text[..end], Some(&text[end + 1..])),
+        None => (text, None),
     }
-    text.len()
-}
-
-// The first part of a text.
-pub fn first_part(text: &[u8]) -> &[u8]
-    ensures value { result.now ≡ first_part text.now }
-    ensures within { length result.now ≤ length text.now }
-{
-    let end = part_length(text);
-    &text[0..end]
-}
-
-// What stands behind the first part of a text.
-fn behind_part(text: &[u8]) -> &[u8]
-    ensures { result.now ≡ drop (length (first_part text.now)) text.now }
-{
-    let end = part_length(text);
-    &text[end..]
 }
 
 impl<'a> Parts<'a> {
-    // The next part.
-    pub fn next(&mut self) -> Option<&'a [u8]>
-        ensures { MatchOption result ((to_come self.old ≡ []) × (to_come self.new ≡ [])) (λ part. to_come self.old ≡ part.now ∷ to_come self.new) }
+    // All parts of a text.
+    pub fn of(text: &'a [u8]) -> Parts<'a>
+        ensures { to_come result ≡ parts text.now }
     {
-        let [_, after @ ..] = self.rest else {
-            return None;
-        };
-        self.rest = behind_part(after);
-        Some(first_part(after))
+        Parts { rest: Some(text) }
+    }
+}
+
+impl<'a> Iterator for Parts<'a> {
+    type Item = &'a [u8];
+
+    ghost next_gives = { YieldsFirstRef to_come };
+
+    ghost remaining = { item_count to_come };
+
+    fn next(&mut self) -> Option<&'a [u8]> {
+        let (first, rest) = cut(self.rest?);
+        self.rest = rest;
+        Some(first)
     }
 }

@@ -7,43 +7,33 @@ ghost use Rattle.script.specs.Printed.{ReadsBack};
 
 use crate::event::Event;
 use crate::numbers::Numbers;
-use crate::parts::{Parts, first_part};
+use crate::parts::Parts;
 use crate::text::{read_number, read_octets};
 
 // The most characters that a line may have.
 const LONGEST: usize = 512;
-
-// Whether a line has at most 512 characters.
-fn short_enough(line: &[u8]) -> bool
-    ensures { result ≡ nat_le (length line.now) 512 }
-{
-    line.len() <= LONGEST
-}
 
 // The one part that is to come.
 fn one_part<'a>(mut parts: Parts<'a>) -> Option<&'a [u8]>
     ensures { option_map (λ x. x.now) result ≡ one_part (to_come parts.entry) }
 {
     let part = parts.next()?;
-    match parts.next() {
-        Some(_) => None,
-        None => Some(part),
-    }
+    parts.next().is_none().then_some(part)
 }
 
 // The one number that is to come.
 fn one_number(parts: Parts) -> Option<u16>
     ensures { result ≡ one_number (to_come parts.entry) }
 {
-    read_number(one_part(parts)?)
+    one_part(parts).and_then(read_number)
 }
 
 // All parts that are to come, as numbers; the first nine are kept.
-fn all_numbers(mut parts: Parts) -> Option<Numbers>
+fn all_numbers(parts: Parts) -> Option<Numbers>
     ensures { option_map numbers_of result ≡ option_map (take 9) (numbers (to_come parts.entry)) }
 {
     let mut read = Numbers::none();
-    while let Some(part) = parts.next() {
+    for part in parts {
         read.add(read_number(part)?);
     }
     Some(read)
@@ -54,14 +44,14 @@ fn status(parts: Parts) -> Option<Event>
     ensures { option_map said result ≡ onto (numbers (to_come parts.entry)) three }
 {
     let read = all_numbers(parts)?;
-    match read.as_slice() {
-        [level, number, mode] => Some(Event::Status {
-            level: *level,
-            number: *number,
-            mode: *mode,
-        }),
-        _ => None,
-    }
+    let &[level, number, mode] = read.as_slice() else {
+        return None;
+    };
+    Some(Event::Status {
+        level,
+        number,
+        mode,
+    })
 }
 
 // 0 for invalid train data, 1 for valid.
@@ -79,51 +69,47 @@ fn train_data(number: u16) -> Option<Event>
 fn message(parts: Parts) -> Option<Event>
     ensures { option_map said result ≡ option_map came (onto (one_part (to_come parts.entry)) sized_octets) }
 {
-    let octets = read_octets(one_part(parts)?)?;
-    Some(Event::Message(octets))
+    one_part(parts).and_then(read_octets).map(Event::Message)
 }
 
 // Power-off, with no part behind it.
 fn power_off(mut parts: Parts) -> Option<Event>
     ensures { option_map said result ≡ no_part (to_come parts.entry) }
 {
-    match parts.next() {
-        Some(_) => None,
-        None => Some(Event::PowerOff),
-    }
+    parts.next().is_none().then_some(Event::PowerOff)
 }
 
 // The call that a letter chooses, with the parts behind it.
-fn call(letter: char, parts: Parts) -> Option<Event>
+fn call(letter: u8, parts: Parts) -> Option<Event>
     ensures { option_map said result ≡ call_of letter (to_come parts.entry) }
 {
     match letter {
-        'n' => Some(Event::New(all_numbers(parts)?)),
-        'c' => Some(Event::Connect(one_number(parts)?)),
-        'l' => Some(Event::Lost(one_number(parts)?)),
-        'f' => Some(Event::FinalLoss(one_number(parts)?)),
-        'm' => message(parts),
-        's' => status(parts),
-        'a' => Some(Event::Announce(one_number(parts)?)),
-        'v' => train_data(one_number(parts)?),
-        't' => Some(Event::Run(one_number(parts)?)),
-        'p' => power_off(parts),
+        b'n' => all_numbers(parts).map(Event::New),
+        b'c' => one_number(parts).map(Event::Connect),
+        b'l' => one_number(parts).map(Event::Lost),
+        b'f' => one_number(parts).map(Event::FinalLoss),
+        b'm' => message(parts),
+        b's' => status(parts),
+        b'a' => one_number(parts).map(Event::Announce),
+        b'v' => one_number(parts).and_then(train_data),
+        b't' => one_number(parts).map(Event::Run),
+        b'p' => power_off(parts),
         _ => None,
     }
 }
 
+#[tactic(auto, using(crate::proofs::ReadingBack::reads_back))]
 // What a line says, if it is readable. Any event, printed and read again, is that event.
 pub fn read_line(line: &[u8]) -> Option<Event>
     ensures value { option_map said result ≡ reading line.now }
     ensures back { ReadsBack }
 {
-    if !short_enough(line) {
+    if line.len() > LONGEST {
         return None;
     }
-    let first = first_part(line);
-    let [letter] = first else {
+    let mut parts = Parts::of(line);
+    let [letter] = parts.next()? else {
         return None;
     };
-    let rest = &line[first.len()..];
-    call(char::from(*letter), Parts { rest })
+    call(*letter, parts)
 }

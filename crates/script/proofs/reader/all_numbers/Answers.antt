@@ -13,7 +13,7 @@ loop-part-preserved c =
     let ps = to_come c.next.new.self in
     ap (λ ys. option_map (λ ns. take 9 (ys ++ ns)) (numbers ps)) c.add.ensures
     ∙ numbers_more p xs ps n (sym c.read_number.ensures ∙ c.in_ok-read_number.was)
-    ∙ ap (λ qs. option_map (λ ns. take 9 (xs ++ ns)) (numbers qs)) (sym c.in-Some.ensures)
+    ∙ ap (λ qs. option_map (λ ns. take 9 (xs ++ ns)) (numbers qs)) (sym c.in-Some.ensures.steps)
     ∙ c.loop-part.invariant
 
 pub returns : goal.returns
@@ -21,5 +21,5 @@ returns c =
     let read = c.loop-part.read in
     let xs = numbers_of read in
     ap Some (sym (numbers_all xs (omega (arith, length-take read.count read.numbers, read.within))))
-    ∙ ap (λ qs. option_map (λ ns. take 9 (xs ++ ns)) (numbers qs)) (sym c.in_default.ensures.0)
+    ∙ ap (λ qs. option_map (λ ns. take 9 (xs ++ ns)) (numbers qs)) (sym c.in-None.ensures.steps.0)
     ∙ c.loop-part.invariant

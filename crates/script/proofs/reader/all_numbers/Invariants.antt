@@ -6,7 +6,4 @@ use Rattle.script.proofs.reader.all_numbers.Given as goal
 
 abbrev pub invariant-loop-part : goal.invariant-loop-part
 invariant-loop-part l =
-    option_map (λ ns. take 9 (numbers_of l.read ++ ns)) (numbers (to_come l.parts)) ≡ option_map (take 9) (numbers (to_come l.initial.parts))
-
-abbrev pub decreases-loop-part : goal.decreases-loop-part
-decreases-loop-part l = length (to_come l.parts)
+    option_map (λ ns. take 9 (numbers_of l.read ++ ns)) (numbers (to_come l.part-iterator)) ≡ option_map (take 9) (numbers (to_come l.initial.parts))
