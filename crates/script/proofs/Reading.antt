@@ -1,12 +1,17 @@
 -- A text read character by character.
 use Rattle.std.specs.List.{slice_split, onto_first, before_first, after_first, position, position_or_len}
+use Rattle.std.proofs.lemmas.Iterator.{YieldsList}
+use Rattle.std.proofs.lemmas.Iterator.Consumers.{YieldsList-turn, YieldsList-end, YieldsList-so_far}
+use Rattle.std.specs.Borrow.{Bor}
+use Rattle.std.specs.Iterator.{YieldsThen}
+use Rattle.std.specs.List.{FoldsTo}
 use Rattle.std.proofs.lemmas.List.Elements.{All-from_get_or}
 use Rattle.std.proofs.lemmas.List.Sums.{fails_before_first}
 use Rattle.std.proofs.lemmas.List.Splits.{slice_split_first, slice_split_none}
-use Rattle.std.proofs.Common.{ltb-true, ltb-false, Bool, ltb, not, ◌≡◌, ℕ, zero, suc, ◌+◌, ◌-◌, ◌<◌, ◌≤◌, true, false, cond, eqb, leb, List, [], ◌∷◌, ◌++◌, length, get_or, take, drop, set, Some, None, Option, sym, refl, ap, ◌∙◌, append_assoc, append-nil, arith, length-append, length-take}
+use Rattle.std.proofs.Common.{take-append-drop, MatchOption, map, ltb-true, ltb-false, Bool, ltb, not, ◌≡◌, ℕ, zero, suc, ◌+◌, ◌-◌, ◌<◌, ◌≤◌, true, false, cond, eqb, leb, List, [], ◌∷◌, ◌++◌, length, get_or, take, drop, set, Some, None, Option, sym, refl, ap, ◌∙◌, append_assoc, append-nil, arith, length-append, length-take}
 use Rattle.std.specs.Option.{option_map}
 use Rattle.std.proofs.lemmas.List.{at_drop_more, at_drop_all, take_more_set, take_rest, take_all}
-use Rattle.script.specs.Text.{first_part, other_parts, parts, add_digits, number, octet, octets}
+use Rattle.script.specs.Text.{first_part, other_parts, parts, add_digit, add_digits, number, octet, octets}
 use Rattle.std.proofs.lemmas.Bool.Decides.{nat_tests}
 use Rattle.vocabulary.specs.Octets.{sized}
 use Rattle.script.specs.Grammar.{onto, sized_octets, numbers, call, called, reading}
@@ -46,10 +51,29 @@ uncut xs e = step (ltb (position_or_len blank xs) (length xs)) refl e
         let end = ltb-false _ _ h in
         parts_split xs ∙ slice_split_none blank xs (All-from_get_or (λ c. blank c ≡ false) xs 0 (λ k l. fails_before_first blank xs k 0 (omega arith)))
 
--- a digit that does not fit ends the number, and one that does leads on
-pub digits_on : (value : ℕ) (xs : List ℕ) (i : ℕ) → i < length xs
-    → add_digits value (drop i xs) ≡ add_digits value (get_or xs i 0 ∷ drop (i + 1) xs)
-digits_on value xs i h = at_drop_more (add_digits value) xs i 0 h
+-- each digit that fits leads on
+digits_on : {F : Type 0} (R : F × ℕ → Bor ℕ → F × ℕ → Type 0) → ((p q : F × ℕ) (x : Bor ℕ) → R p x q → add_digit p.1 x.now ≡ Some q.1)
+    → (xs : List (Bor ℕ)) (p q : F × ℕ) (ys : List ℕ) → FoldsTo R p xs q → add_digits p.1 (map (λ x. x.now) xs ++ ys) ≡ add_digits q.1 ys
+digits_on {F} R k [] p q ys c = ap (λ (v : F × ℕ). add_digits v.1 ys) c
+digits_on R k (x ∷ xs) p q ys c = rw (add_digits, k p c.0 x c.1) (digits_on R k xs c.0 q ys c.2)
+
+-- and one that does not ends the number
+pub digits_tried : {F S : Type 0} {steps : S → Option (Bor ℕ) → S → Type 0} {s : S} (R : F × ℕ → Bor ℕ → F × ℕ → Type 0)
+    → ((p q : F × ℕ) (x : Bor ℕ) → R p x q → add_digit p.1 x.now ≡ Some q.1)
+    → (text : List ℕ) → YieldsList steps (λ x. x.now) s text → (xs : List (Bor ℕ)) (o : Option (Bor ℕ)) (p q : F × ℕ) (u : S) (r : Option ℕ)
+    (Stop : Bor ℕ → Type 0) → ((x : Bor ℕ) → Stop x → (add_digit q.1 x.now ≡ None) × (r ≡ None))
+    → YieldsThen steps s xs o u → FoldsTo R p xs q → MatchOption o (r ≡ Some q.1) Stop → r ≡ add_digits p.1 text
+digits_tried R k text e xs None p q u r Stop n y c m =
+    let whole = YieldsList-end e xs y.0 y.1 None u refl y.2 in
+    m ∙ sym (digits_on R k xs p q [] c) ∙ ap (add_digits p.1) (append-nil _ ∙ whole.0)
+digits_tried R k text e xs (Some x) p q u r Stop n y c m =
+    let turn = YieldsList-turn e xs y.0 y.1 (Some x) u x refl y.2 in
+    let front = YieldsList-so_far e xs y.0 y.1 in
+    let rest = drop (length xs + 1) text in
+    let stop : add_digits q.1 (x.now ∷ rest) ≡ None = rw (add_digits, (n x m).0) in
+    let whole : take (length xs) text ++ (x.now ∷ rest) ≡ text =
+    ap (λ d. take (length xs) text ++ (d ∷ rest)) turn.1 ∙ sym (at_drop_more (λ ys. take (length xs) text ++ ys) text (length xs) x.now turn.0) ∙ take-append-drop (length xs) text in
+    (n x m).1 ∙ sym stop ∙ sym (digits_on R k xs p q (x.now ∷ rest) c) ∙ ap (λ ys. add_digits p.1 (ys ++ (x.now ∷ rest))) front ∙ ap (add_digits p.1) whole
 
 pub number_some : (xs : List ℕ) → false ≡ eqb (length xs) 0 → number xs ≡ add_digits 0 xs
 number_some [] h = let z : ◌≡◌ {A = ℕ} 0 1 = cc in absurd (omega arith)
@@ -100,4 +124,3 @@ pub called_one : (first : List ℕ) (ps : List (List ℕ)) → length first ≡ 
 called_one [] ps h = absurd (omega arith)
 called_one (c ∷ []) ps h = refl
 called_one (c ∷ (d ∷ cs)) ps h = absurd (omega arith)
-

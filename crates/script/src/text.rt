@@ -7,21 +7,12 @@ ghost use Rattle.script.specs.Grammar.{sized_octets};
 
 use vocabulary::octets::Octets;
 
-// The largest number that a line may hold.
-const LARGEST: u32 = 65535;
-
 // A number with a digit more, unless the character is no digit or the number grows too large.
 fn add_digit(value: u16, c: u8) -> Option<u16>
     ensures { result ≡ add_digit value c }
 {
-    if c < b'0' || c > b'9' {
-        return None;
-    }
-    let sum = 10 * u32::from(value) + u32::from(c - b'0');
-    if sum > LARGEST {
-        return None;
-    }
-    Some(sum as u16)
+    let digit = char::from(c).to_digit(10)?;
+    u16::try_from(10 * u32::from(value) + digit).ok()
 }
 
 // A number in digits, 0 to 65535.
@@ -31,20 +22,16 @@ pub fn read_number(text: &[u8]) -> Option<u16>
     if text.is_empty() {
         return None;
     }
-    let mut value = 0;
-    for c in text {
-        value = add_digit(value, *c)?;
-    }
-    Some(value)
+    text.iter().try_fold(0, |value, c| add_digit(value, *c))
 }
 
 // The value of a hexadecimal digit, in capitals.
 fn hex_value(c: u8) -> Option<u8>
     ensures { result ≡ hex_value c }
 {
-    match char::from(c) {
-        '0'..='9' => Some(c - b'0'),
-        'A'..='F' => Some(c - b'A' + 10),
+    match c {
+        b'0'..=b'9' => Some(c - b'0'),
+        b'A'..=b'F' => Some(c - b'A' + 10),
         _ => None,
     }
 }
