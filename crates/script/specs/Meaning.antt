@@ -1,11 +1,12 @@
 -- What the values of the code mean.
-use Rattle.std.specs.Prelude.{ℕ, List, [], take, Some, None, Option}
+use Rattle.std.specs.Prelude.{ℕ, List, [], take, Some, None, Ok, Err, Option, Result}
 use Rattle.std.specs.Borrow.{Bor}
 use Rattle.vocabulary.specs.Octets.{octets_of}
 use Rattle.script.specs.Text.{parts}
 use Rattle.script.specs.Grammar.{Said, anew, connected, lost, lost_for_good, came, status, announced, train_data, ticks, power_off}
 use Rattle.script.specs.declared.event.Event.{Event}
 use Rattle.script.specs.declared.event.Event.TheVariants as event
+use Rattle.script.specs.declared.event.Unreadable.{Unreadable}
 use Rattle.script.specs.declared.numbers.Numbers.{Numbers}
 use Rattle.script.specs.declared.parts.Parts.{Parts}
 
@@ -34,3 +35,8 @@ said (event.Announce n) = announced n
 said (event.TrainData valid) = train_data valid
 said (event.Run k) = ticks k
 said event.PowerOff = power_off
+
+-- What a line says that was read, if it is readable.
+abbrev pub says : Result Event Unreadable → Option Said
+says (Ok e) = Some (said e)
+says (Err u) = None

@@ -18,3 +18,7 @@ pub enum Event {
     Run(u16),
     PowerOff,
 }
+
+// A line that is none of these.
+#[derive(Clone, Copy, PartialEq, Eq, Debug, Drop)]
+pub struct Unreadable;

@@ -2,10 +2,10 @@
 ghost use Rattle.std.specs.Prelude.{◌≡◌, length, take, nat_le};
 ghost use Rattle.std.specs.Option.{option_map};
 ghost use Rattle.script.specs.Grammar.{call as call_of, came, one_part, one_number, no_part, numbers, three, flag, reading, onto, sized_octets};
-ghost use Rattle.script.specs.Meaning.{said, numbers_of, to_come};
+ghost use Rattle.script.specs.Meaning.{said, says, numbers_of, to_come};
 ghost use Rattle.script.specs.Printed.{ReadsBack};
 
-use crate::event::Event;
+use crate::event::{Event, Unreadable};
 use crate::numbers::Numbers;
 use crate::parts::Parts;
 use crate::text::{read_number, read_octets};
@@ -98,11 +98,9 @@ fn call(letter: u8, parts: Parts) -> Option<Event>
     }
 }
 
-#[tactic(auto, using(crate::proofs::ReadingBack::reads_back))]
-// What a line says, if it is readable. Any event, printed and read again, is that event.
-pub fn read_line(line: &[u8]) -> Option<Event>
-    ensures value { option_map said result ≡ reading line.now }
-    ensures back { ReadsBack }
+// What a line says, if it is readable.
+fn read(line: &[u8]) -> Option<Event>
+    ensures { option_map said result ≡ reading line.now }
 {
     if line.len() > LONGEST {
         return None;
@@ -112,4 +110,18 @@ pub fn read_line(line: &[u8]) -> Option<Event>
         return None;
     };
     call(*letter, parts)
+}
+
+// Any event, printed and read again, is that event.
+impl TryFrom<&[u8]> for Event {
+    type Error = Unreadable;
+
+    ghost try_from_gives = { λ line r. says r ≡ reading line.now };
+
+    #[tactic(auto, using(crate::proofs::ReadingBack::reads_back))]
+    fn try_from(line: &[u8]) -> Result<Event, Unreadable>
+        ensures back { ReadsBack }
+    {
+        read(line).ok_or(Unreadable)
+    }
 }
