@@ -1,9 +1,7 @@
 -- A text taken in octet by octet.
-use Rattle.std.proofs.Common.{◌≡◌, ℕ, zero, suc, ◌<◌, Bool, true, false, cond, eqb, leb, List, [], ◌∷◌, ◌++◌, map, length, take, is_ok, Some, None, Result, sym, refl, ap, ◌∙◌, arith, length-take, ne_eqb, leb-false, leb-true}
+use Rattle.std.proofs.Common.{◌≡◌, ℕ, zero, suc, ◌<◌, Bool, true, false, cond, eqb, leb, List, [], ◌∷◌, ◌++◌, map, length, get_or, take, ◌+◌, Some, None, sym, refl, ap, ◌∙◌, arith, length-take, ne_eqb, leb-false, leb-true}
 use borrow.Author.Tests.{lt-leb}
-use Rattle.std.proofs.lemmas.List.{take_all}
-use Rattle.line.specs.Waiting.{verdict}
-use Rattle.line.specs.declared.Full.{Full}
+use Rattle.std.proofs.lemmas.List.{take_all, take_more}
 use Rattle.script.specs.Grammar.{reading}
 use Rattle.intake.specs.Lines.{AsTheyRead, keep, told, left, last_told, ended, unended}
 
@@ -28,9 +26,14 @@ left_push held (x ∷ xs) c = step (left_push [] xs c) (left_push (keep held x) 
     step p q true = p
     step p q false = q
 
--- a put that finds a place is granted
-pub granted : (n : ℕ) (r : Result (Unit {0}) Full) → 0 < n → r ≡ verdict n → is_ok r ≡ true
-granted n r h e = let ne : eqb n 0 ≡ false = ne_eqb _ _ (λ q. omega arith) in ap is_ok e ∙ rw ne
+-- and an octet more of a longer text, where `now` is the line so far
+pub told_more : (held now xs : List ℕ) (i : ℕ) → i < length xs → now ≡ left held (take i xs)
+    → told held (take (i + 1) xs) ≡ told held (take i xs) ++ told now (get_or xs i 0 ∷ [])
+told_more held now xs i h e = rw e (ap (told held) (take_more xs i 0 h) ∙ told_push held (take i xs) (get_or xs i 0))
+
+pub left_more : (held now xs : List ℕ) (i : ℕ) → i < length xs → now ≡ left held (take i xs)
+    → left held (take (i + 1) xs) ≡ left now (get_or xs i 0 ∷ [])
+left_more held now xs i h e = rw e (ap (left held) (take_more xs i 0 h) ∙ left_push held (take i xs) (get_or xs i 0))
 
 -- the front of a line that is kept reads as the line
 take_front : (k : ℕ) (ys zs : List ℕ) → take k (take k ys ++ zs) ≡ take k (ys ++ zs)

@@ -120,6 +120,7 @@ impl TryFrom<&[u8]> for Event {
 
     #[tactic(auto, using(crate::proofs::ReadingBack::reads_back))]
     fn try_from(line: &[u8]) -> Result<Event, Unreadable>
+        ensures value { says result ≡ reading line.now }
         ensures back { ReadsBack }
     {
         read(line).ok_or(Unreadable)
