@@ -5,20 +5,17 @@ use Rattle.std.proofs.lemmas.Iterator.Consumers.{YieldsList-turn, YieldsList-end
 use Rattle.std.specs.Borrow.{Bor}
 use Rattle.std.specs.Iterator.{YieldsThen}
 use Rattle.std.specs.List.{FoldsTo}
+use Rattle.std.specs.Simd.{first_chunks}
 use Rattle.std.proofs.lemmas.List.Elements.{All-from_get_or}
 use Rattle.std.proofs.lemmas.List.Sums.{fails_before_first}
 use Rattle.std.proofs.lemmas.List.Splits.{slice_split_first, slice_split_none}
-use Rattle.std.proofs.Common.{take-append-drop, MatchOption, map, ltb-true, ltb-false, Bool, ltb, not, ◌≡◌, ℕ, zero, suc, ◌+◌, ◌-◌, ◌<◌, ◌≤◌, true, false, cond, eqb, leb, List, [], ◌∷◌, ◌++◌, length, get_or, take, drop, set, Some, None, Option, sym, refl, ap, ◌∙◌, append_assoc, append-nil, arith, length-append, length-take}
+use Rattle.std.proofs.Common.{◌*◌, take-append-drop, MatchOption, map, ltb-true, ltb-false, Bool, ltb, ◌≡◌, ℕ, zero, suc, ◌+◌, ◌-◌, ◌<◌, ◌≤◌, true, false, cond, eqb, List, [], ◌∷◌, ◌++◌, length, get_or, take, drop, Some, None, Option, sym, refl, ap, ◌∙◌, append_assoc, append-nil, arith, length-append}
 use Rattle.std.specs.Option.{option_map}
-use Rattle.std.proofs.lemmas.List.{at_drop_more, at_drop_all, take_more_set, take_rest, take_all}
+use Rattle.std.proofs.lemmas.List.{at_drop_more, take_rest, take_all}
 use Rattle.script.specs.Text.{first_part, other_parts, parts, add_digit, add_digits, number, octet, octets}
 use Rattle.std.proofs.lemmas.Bool.Decides.{nat_tests}
 use Rattle.vocabulary.specs.Octets.{sized}
-use Rattle.script.specs.Grammar.{onto, sized_octets, numbers, call, called, reading}
-
--- at most 255 of them
-abbrev few : Option (List ℕ) → Option (List ℕ)
-few r = onto r (sized 255)
+use Rattle.script.specs.Grammar.{onto, numbers, call, called}
 
 abbrev blank : ℕ → Bool
 blank c = eqb c 32
@@ -79,29 +76,53 @@ pub number_some : (xs : List ℕ) → false ≡ eqb (length xs) 0 → number xs 
 number_some [] h = let z : ◌≡◌ {A = ℕ} 0 1 = cc in absurd (omega arith)
 number_some (c ∷ cs) h = refl
 
-pub pair_on : (rest : List ℕ) (o : ℕ) → 2 ≤ length rest → octet (get_or rest 0 0) (get_or rest 1 0) ≡ Some o
-    → octets rest ≡ option_map (λ os. o ∷ os) (octets (take (length rest - 2) (drop 2 rest)))
-pair_on [] o h e = absurd (omega arith)
-pair_on (c ∷ []) o h e = absurd (omega arith)
-pair_on (c ∷ (d ∷ cs)) o h e = rw (octets, e, take_rest (c ∷ (d ∷ cs)) 2)
+-- octets by their pairs of digits
+abbrev pub by_pairs : List (List ℕ) → Option (List ℕ)
+by_pairs [] = Some []
+by_pairs (p ∷ ps) = onto (octet (get_or p 0 0) (get_or p 1 0)) (λ o. option_map (λ os. o ∷ os) (by_pairs ps))
 
--- one octet more, written behind those that are held
-pub pair_held : (held text : List ℕ) (n o : ℕ) (q : Option (List ℕ)) → n < length held
-    → option_map (λ os. take n held ++ os) (option_map (λ os. o ∷ os) q) ≡ octets text
-    → option_map (λ os. take (n + 1) (set held n o) ++ os) q ≡ octets text
-pair_held held text n o None h e = e
-pair_held held text n o (Some os) h e =
-    ap Some (ap (λ xs. xs ++ os) (take_more_set held n o h) ∙ append_assoc (take n held) (o ∷ []) os) ∙ e
-
--- and one too many
-pub pair_full : (held text : List ℕ) (n o : ℕ) (q : Option (List ℕ)) → length held ≡ 255 → n ≡ 255
-    → option_map (λ os. take n held ++ os) (option_map (λ os. o ∷ os) q) ≡ octets text
-    → None ≡ sized_octets text
-pair_full held text n o None f h e = ap few e
-pair_full held text n o (Some os) f h e = too_many (take n held) os (length-take n held ∙ omega arith) ∙ ap few e
+pub in_pairs : (n : ℕ) (xs : List ℕ) → length xs ≡ n * 2 → by_pairs (first_chunks 2 n xs) ≡ octets xs
+in_pairs zero [] h = refl
+in_pairs zero (c ∷ cs) h = absurd (omega arith)
+in_pairs (suc n) [] h = absurd (omega arith)
+in_pairs (suc n) (c ∷ []) h = absurd (omega arith)
+in_pairs (suc n) (c ∷ (d ∷ cs)) h = rw (in_pairs n cs (omega arith)) (same (octet c d))
   where
-    too_many : (xs ys : List ℕ) → length xs ≡ 255 → None ≡ few (Some (xs ++ o ∷ ys))
-    too_many xs ys l = let k = length-append xs (o ∷ ys) in grind (arith, nat_tests)
+    same : (q : Option ℕ) → onto q (λ o. option_map (λ os. o ∷ os) (octets cs)) ≡ elim q as (λ _. Option (List ℕ)) [ Some o ↦ option_map (λ os. o ∷ os) (octets cs) | None ↦ None ]
+    same None = refl
+    same (Some o) = refl
+
+-- an odd digit is no octet
+pub odd_one : (n : ℕ) (xs : List ℕ) → length xs ≡ n * 2 + 1 → octets xs ≡ None
+odd_one n [] h = absurd (omega arith)
+odd_one n (c ∷ []) h = refl
+odd_one zero (c ∷ (d ∷ cs)) h = absurd (omega arith)
+odd_one (suc n) (c ∷ (d ∷ cs)) h = none (octets cs) (odd_one n cs (omega arith)) (octet c d)
+  where
+    none : (r : Option (List ℕ)) → r ≡ None → (q : Option ℕ) → elim q as (λ _. Option (List ℕ)) [ Some o ↦ option_map (λ os. o ∷ os) r | None ↦ None ] ≡ None
+    none r e None = refl
+    none r e (Some o) = ap (option_map (λ os. o ∷ os)) e
+
+-- the octets that are held, and those of the pairs behind
+abbrev pub with_held : List ℕ → List (List ℕ) → Option (List ℕ)
+with_held held ps = option_map (λ os. held ++ os) (by_pairs ps)
+
+module _ (held : List ℕ) (ps : List (List ℕ)) (i o : ℕ) (h : i < length ps) (e : octet (get_or (get_or ps i []) 0 0) (get_or (get_or ps i []) 1 0) ≡ Some o) where
+  -- one more is held
+  pub pair_held : with_held (held ++ o ∷ []) (drop (i + 1) ps) ≡ with_held held (drop i ps)
+  pair_held = rw (at_drop_more (with_held held) ps i [] h, e) (moved (by_pairs (drop (i + 1) ps)))
+    where
+      moved : (q : Option (List ℕ)) → option_map (λ os. (held ++ o ∷ []) ++ os) q ≡ option_map (λ os. held ++ os) (option_map (λ os. o ∷ os) q)
+      moved None = refl
+      moved (Some os) = ap Some (append_assoc held (o ∷ []) os)
+
+  -- or is one too many
+  pub pair_full : length held ≡ 255 → None ≡ onto (with_held held (drop i ps)) (sized 255)
+  pair_full l = rw (at_drop_more (with_held held) ps i [] h, e) (over (by_pairs (drop (i + 1) ps)))
+    where
+      over : (q : Option (List ℕ)) → None ≡ onto (option_map (λ os. held ++ os) (option_map (λ os. o ∷ os) q)) (sized 255)
+      over None = refl
+      over (Some os) = let k = length-append held (o ∷ os) in grind (arith, nat_tests)
 
 take_front : (k : ℕ) (ys zs : List ℕ) → take k (take k ys ++ zs) ≡ take k (ys ++ zs)
 take_front zero ys zs = refl

@@ -1,6 +1,7 @@
 -- What the values of the code mean.
-use Rattle.std.specs.Prelude.{ℕ, List, [], take, Some, None, Ok, Err, Option, Result}
+use Rattle.std.specs.Prelude.{ℕ, List, [], Some, None, Ok, Err, Option, Result}
 use Rattle.std.specs.Borrow.{Bor}
+use Rattle.few.specs.Few.{held}
 use Rattle.vocabulary.specs.Octets.{octets_of}
 use Rattle.script.specs.Text.{parts}
 use Rattle.script.specs.Grammar.{Said, anew, connected, lost, lost_for_good, came, status, announced, train_data, ticks, power_off}
@@ -21,7 +22,7 @@ to_come p = behind p.rest
 
 -- The numbers, in their order.
 abbrev pub numbers_of : Numbers → List ℕ
-numbers_of n = take n.count n.numbers
+numbers_of n = held n.kept
 
 -- What an event says.
 abbrev pub said : Event → Said

@@ -5,6 +5,7 @@ ghost use Rattle.vocabulary.specs.Octets.{octets_of, sized};
 ghost use Rattle.script.specs.Text.{add_digit, number, hex_value, octet as octet_of, octets};
 ghost use Rattle.script.specs.Grammar.{sized_octets};
 
+use few::Few;
 use vocabulary::octets::Octets;
 
 // A number with a digit more, unless the character is no digit or the number grows too large.
@@ -49,20 +50,13 @@ fn octet(high: u8, low: u8) -> Option<u8>
 pub fn read_octets(text: &[u8]) -> Option<Octets<255>>
     ensures { option_map octets_of result ≡ sized_octets text.now }
 {
-    let mut held = [0u8; 255];
-    let mut len = 0;
-    let mut rest = text;
-    while let [high, low, after @ ..] = rest {
-        let read = octet(*high, *low)?;
-        if len >= 255 {
-            return None;
-        }
-        held[len] = read;
-        len += 1;
-        rest = after;
-    }
+    let (pairs, rest) = text.as_chunks::<2>();
     if !rest.is_empty() {
         return None;
     }
-    Octets::new(&held[0..len])
+    let mut read = Few::<u8, 255>::new();
+    for [high, low] in pairs {
+        read.push(octet(*high, *low)?).ok()?;
+    }
+    Octets::try_from(read.as_slice()).ok()
 }

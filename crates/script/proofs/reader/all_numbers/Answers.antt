@@ -18,8 +18,8 @@ loop-part-preserved c =
 
 pub returns : goal.returns
 returns c =
-    let read = c.loop-part.read in
-    let xs = numbers_of read in
-    ap Some (sym (numbers_all xs (omega (arith, length-take read.count read.numbers, read.within))))
+    let kept = c.loop-part.read.kept in
+    let xs = numbers_of c.loop-part.read in
+    ap Some (sym (numbers_all xs (omega (arith, length-take kept.len kept.items, kept.within))))
     ∙ ap (λ qs. option_map (λ ns. take 9 (xs ++ ns)) (numbers qs)) (sym c.in-None.ensures.steps.0)
     ∙ c.loop-part.invariant

@@ -1,4 +1,4 @@
-use Rattle.std.proofs.Common.{◌≡◌, ◌++◌, length, take}
+use Rattle.std.proofs.Common.{◌≡◌, ◌++◌, take}
 use Rattle.std.specs.Option.{option_map}
 use Rattle.script.specs.Grammar.{numbers}
 use Rattle.script.specs.Meaning.{numbers_of, to_come}

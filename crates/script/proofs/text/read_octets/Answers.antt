@@ -1,29 +1,35 @@
-use Rattle.std.proofs.Common.{◌≡◌, ℕ, ◌-◌, List, ◌++◌, length, take, drop, Some, None, Option, sym, refl, ap, ◌∙◌, arith, length-set, ltb-false}
+use Rattle.std.proofs.Common.{◌≡◌, ◌*◌, ◌/◌, ◌+◌, true, is_ok, length, length-take, sym, ◌∙◌, ap, arith, rules}
 use Rattle.std.specs.Option.{option_map}
-use Rattle.script.specs.Text.{octets}
-use Rattle.script.proofs.Reading.{pair_on, pair_held, pair_full}
+use Rattle.few.specs.Few.{held}
+use Rattle.vocabulary.specs.Octets.{sized, octets_of}
+use Rattle.script.specs.Grammar.{onto}
+use Rattle.std.proofs.lemmas.Bool.Decides.{nat_tests}
+use Rattle.script.proofs.Reading.{in_pairs, odd_one, pair_held, pair_full}
 use Rattle.script.proofs.text.read_octets.Goals as goal
 
-same : (q : Option (List ℕ)) → option_map (λ os. os) q ≡ q
-same None = refl
-same (Some os) = refl
+pub returns-then-not-is_empty : goal.returns-then-not-is_empty
+returns-then-not-is_empty c =
+    let text = c.args.text.now in
+    let odd : length text ≡ length text / 2 * 2 + 1 = grind (arith, nat_tests) in
+    ap (λ r. onto r (sized 255)) (sym (odd_one (length text / 2) text odd))
 
-pub loop-rest-init : goal.loop-rest-init
-loop-rest-init c = (refl, omega arith, same (octets c.args.text.now))
+pub loop-high-init : goal.loop-high-init
+loop-high-init c =
+    let text = c.args.text.now in
+    let even : length text ≡ length text / 2 * 2 = grind (arith, nat_tests) in
+    let all = in_pairs (length text / 2) text even in
+    grind arith
 
-pub returns-then-len-ge255 : goal.returns-then-len-ge255
-returns-then-len-ge255 c =
-    let rest = c.loop-rest.rest.now in
-    let n = c.loop-rest.len in
-    let o = c.in_ok-read.read in
-    let e = pair_on rest o (omega (arith, ltb-false)) (sym c.octet.ensures ∙ c.in_ok-read.was) in
-    pair_full c.loop-rest.held c.args.text.now n o (octets (take (length rest - 2) (drop 2 rest))) c.loop-rest.invariant.0 (omega (arith, c.loop-rest.invariant.1)) (ap (option_map (λ os. take n c.loop-rest.held ++ os)) (sym e) ∙ c.loop-rest.invariant.2)
+pub returns-in_err-ok : goal.returns-in_err-ok
+returns-in_err-ok c =
+    let read = c.loop-high.read in
+    let within = length-take read.len read.items in
+    let full : length (held read) ≡ 255 = grind (arith, nat_tests, within, read.within) in
+    let over = pair_full (held c.loop-high.read) c.as_chunks.result.0.now c.loop-high.high-index c.in_ok-octet.field-0 c.loop-high-test.true (sym c.octet.ensures ∙ c.in_ok-octet.was) full in
+    ap (option_map octets_of) c.from_residual-in_err-ok.ensures ∙ over ∙ ap (λ r. onto r (sized 255)) c.loop-high.invariant
 
-pub loop-rest-preserved : goal.loop-rest-preserved
-loop-rest-preserved c =
-    let rest = c.loop-rest.rest.now in
-    let held = c.loop-rest.held in
-    let n = c.loop-rest.len in
-    let o = c.in_ok-read.read in
-    let e = pair_on rest o (omega (arith, ltb-false)) (sym c.octet.ensures ∙ c.in_ok-read.was) in
-    (length-set held n o ∙ c.loop-rest.invariant.0, omega arith, pair_held held c.args.text.now n o (octets (take (length rest - 2) (drop 2 rest))) (omega arith) (ap (option_map (λ os. take n held ++ os)) (sym e) ∙ c.loop-rest.invariant.2))
+pub loop-high-preserved : goal.loop-high-preserved
+loop-high-preserved c =
+    let step = pair_held (held c.loop-high.read) c.as_chunks.result.0.now c.loop-high.high-index c.in_ok-octet.field-0 c.loop-high-test.true (sym c.octet.ensures ∙ c.in_ok-octet.was) in
+    let ok : is_ok c.push.result ≡ true = search rules in
+    grind arith

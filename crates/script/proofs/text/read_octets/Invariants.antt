@@ -1,11 +1,8 @@
-use Rattle.std.proofs.Common.{◌≡◌, ◌≤◌, ◌++◌, length, take}
-use Rattle.std.specs.Option.{option_map}
+use Rattle.std.proofs.Common.{◌≡◌, drop}
+use Rattle.few.specs.Few.{held}
 use Rattle.script.specs.Text.{octets}
+use Rattle.script.proofs.Reading.{with_held}
 use Rattle.script.proofs.text.read_octets.Given as goal
 
-abbrev pub invariant-loop-rest : goal.invariant-loop-rest
-invariant-loop-rest l =
-    (length l.held ≡ 255) × (l.len ≤ 255) × (option_map (λ os. take l.len l.held ++ os) (octets l.rest) ≡ octets l.text)
-
-abbrev pub decreases-loop-rest : goal.decreases-loop-rest
-decreases-loop-rest l = length l.rest
+abbrev pub invariant-loop-high : goal.invariant-loop-high
+invariant-loop-high l = with_held (held l.read) (drop l.high-index l.pairs) ≡ octets l.text
