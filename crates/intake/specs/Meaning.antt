@@ -1,5 +1,6 @@
 -- What the values of the code mean.
-use Rattle.std.specs.Prelude.{ℕ, List, map, take, Option, Result}
+use Rattle.std.specs.Prelude.{ℕ, List, map, Option, Result}
+use Rattle.few.specs.Few.{held}
 use Rattle.line.specs.Waiting.{waits}
 use Rattle.line.specs.declared.Line.{Line}
 use Rattle.script.specs.Grammar.{Said}
@@ -10,7 +11,7 @@ use Rattle.intake.specs.declared.intake.Intake.{Intake}
 
 -- The octets of a line so far.
 abbrev pub so_far : Intake → List ℕ
-so_far i = take i.count i.octets
+so_far i = held i.octets
 
 -- What the waiting lines say: an event, or none for an unreadable line.
 abbrev pub heard : Line (Result Event Unreadable) → List (Option Said)
