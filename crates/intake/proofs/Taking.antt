@@ -3,7 +3,6 @@ use Rattle.std.proofs.Common.{Result, Ok, Err, is_ok, ltb, ltb-true, ltb-false, 
 use borrow.Author.Tests.{lt-leb}
 use Rattle.std.proofs.lemmas.List.{take_all, take_more, take_at, length_push}
 use Rattle.few.specs.declared.Full.{Full}
-use Rattle.few.specs.declared.Few.{Few}
 use Rattle.few.specs.Few.{held}
 use Rattle.script.specs.Grammar.{reading}
 use Rattle.intake.specs.Lines.{AsTheyRead, keep, told, left, last_told, ended, unended}
@@ -12,13 +11,12 @@ use Rattle.intake.specs.Lines.{AsTheyRead, keep, told, left, last_told, ended, u
 pub kept : (n : ℕ) (octets after : List ℕ) (c : ℕ) (r : Result (Unit {0}) Full) → length octets ≡ 513 → n ≤ 513
     → r ≡ cond (ltb (length (take n octets)) 513) (Ok tt) (Err (record {})) → after ≡ cond (is_ok r) (take n octets ++ c ∷ []) (take n octets)
     → after ≡ take 513 (take n octets ++ c ∷ [])
-kept n octets after c r full within e h = h ∙ rw e (step (take n octets) (omega (arith, length-take n octets)))
+kept n octets after c r full within e h = h ∙ rw e (step (ltb (length (take n octets)) 513) refl)
   where
-    step : (xs : List ℕ) → length xs ≤ 513 → cond (is_ok {E = Full} (cond (ltb (length xs) 513) (Ok (tt {0})) (Err (record {})))) (xs ++ c ∷ []) xs ≡ take 513 (xs ++ c ∷ [])
-    step xs l = elim (ltb (length xs) 513) as (λ b. ltb (length xs) 513 ≡ b → cond (is_ok {E = Full} (cond b (Ok (tt {0})) (Err (record {})))) (xs ++ c ∷ []) xs ≡ take 513 (xs ++ c ∷ [])) [
-      true ↦ λ q. sym (take_all 513 (xs ++ c ∷ []) (omega (arith, ltb-true _ _ q, length_push xs c)))
-    | false ↦ λ q. sym (take_at xs (c ∷ []) 513 (omega (arith, ltb-false _ _ q)))
-    ] refl
+    step : (b : Bool) → ltb (length (take n octets)) 513 ≡ b
+        → cond (is_ok {E = Full} (cond b (Ok (tt {0})) (Err (record {})))) (take n octets ++ c ∷ []) (take n octets) ≡ take 513 (take n octets ++ c ∷ [])
+    step true q = sym (take_all 513 (take n octets ++ c ∷ []) (omega (arith, ltb-true _ _ q, length_push (take n octets) c)))
+    step false q = sym (take_at (take n octets) (c ∷ []) 513 (omega (arith, ltb-false _ _ q, length-take n octets)))
 
 -- an octet more at the end of a text
 pub told_push : (held xs : List ℕ) (c : ℕ) → told held (xs ++ c ∷ []) ≡ told held xs ++ told (left held xs) (c ∷ [])
