@@ -1,6 +1,6 @@
 -- What the player answers.
 use Rattle.std.specs.Prelude.{ℕ, List, [], ◌∷◌, ◌++◌, Some, None, Ok, Err, codes, decimal, Option, Result, refl}
-use Rattle.vocabulary.specs.Refusals.{fault_number}
+use Rattle.vocabulary.specs.Refusals.{refusal_number}
 use Rattle.std.specs.Option.{option_map}
 use Rattle.vocabulary.specs.Settings.{Agreed, agreed, settings_of}
 use Rattle.wire.specs.Messages.{Reading, read_message}
@@ -23,18 +23,23 @@ trip_number = 200
 abbrev pub standing : Session → Option Agreed
 standing p = option_map agreed p.settings
 
--- A new control is granted, or refused by the number of the fault in its settings.
+-- What comes of a call: the answer that it gives, or the refusal of its fault.
+abbrev pub outcome : Result Answer Fault → Answer
+outcome (Ok a) = a
+outcome (Err f) = Refused f.cause
+
+-- A new control is granted, or refused for the fault in its settings.
 abbrev pub on_settings : Result Agreed Fault → Answer
 on_settings (Ok a) = Granted
-on_settings (Err f) = Refused (fault_number f)
+on_settings (Err f) = Refused f.cause
 
 abbrev pub on_new : List ℕ → Answer
 on_new numbers = on_settings (settings_of numbers versions trip_number)
 
--- A message that the reader refuses is refused by its fault's number.
+-- A message that the reader refuses is refused for its fault.
 abbrev pub on_reading : Result Reading Fault → Answer
 on_reading (Ok r) = NoCall
-on_reading (Err f) = Refused (fault_number f)
+on_reading (Err f) = Refused f.cause
 
 abbrev pub on_message : Option Agreed → List ℕ → Answer
 on_message None os = NoCall
@@ -83,8 +88,8 @@ abbrev pub standing_after : Option Agreed → Option Said → Option Agreed
 standing_after before None = before
 standing_after before (Some s) = standing_said before s
 
--- How an answer is printed.
+-- How an answer is printed: a refusal by its number.
 abbrev pub shown_as : Answer → List ℕ
 shown_as Granted = codes "ok 0 0 0 0 0"
-shown_as (Refused n) = codes "no " ++ decimal n
+shown_as (Refused r) = codes "no " ++ decimal (refusal_number r)
 shown_as NoCall = codes "line"

@@ -3,22 +3,24 @@ ghost use Rattle.std.specs.Prelude.{Some};
 ghost use Rattle.player.specs.Answers.{shown_as};
 
 use std::fmt;
+use vocabulary::fault::Refusal;
 
-// Granted with no orders; refused by a number; or not a line that can be answered.
-#[derive(Clone, Copy)]
+// Granted with no orders; refused; or not a line that can be answered.
+#[derive(Clone, Copy, PartialEq, Eq, Debug)]
 pub enum Answer {
     Granted,
-    Refused(u8),
+    Refused(Refusal),
     NoCall,
 }
 
+// A refusal is printed by its number.
 impl fmt::Display for Answer {
     ghost output = { λ a. Some (shown_as a) };
 
     fn fmt<W: fmt::Write>(&self, f: &mut fmt::Formatter<W>) -> fmt::Result {
         match self {
             Answer::Granted => write!(f, "ok 0 0 0 0 0"),
-            Answer::Refused(number) => write!(f, "no {number}"),
+            Answer::Refused(refusal) => write!(f, "no {}", u8::from(*refusal)),
             Answer::NoCall => write!(f, "line"),
         }
     }

@@ -1,12 +1,15 @@
 // The player: it reads a script on standard input and answers each line.
 #![tactic(auto)]
 
+ghost use Rattle.std.specs.Prelude.{◌≡◌, ◌+◌, ◌<◌, length, OnOk};
+ghost use Rattle.line.specs.Waiting.{room, waits};
+
 mod answer;
 mod session;
 
 use intake::intake::Intake;
 use line::Line;
-use script::event::Event;
+use script::event::{Event, Unreadable};
 use session::Session;
 use std::io;
 use std::io::{BufWriter, Read, Write};
@@ -16,66 +19,74 @@ const AHEAD: usize = 32;
 
 const CHUNK: usize = 8192;
 
-// Answers the lines that wait, in order.
-fn answer_waiting<W: Write>(
-    session: &mut Session,
-    ahead: &mut Line<Option<Event>>,
-    out: &mut W,
-) -> io::Result<()> {
-    for _ in 0..AHEAD {
-        let Some(said) = ahead.take() else {
-            return Ok(());
-        };
-        let answer = session.answer(said);
-        writeln!(out, "{answer}")?;
-    }
-    Ok(())
+// The player at work: what stands, the line on its way in, the lines that wait, and where the answers go.
+#[derive(Drop)]
+struct Player<'a, W> {
+    session: Session,
+    intake: Intake,
+    ahead: Line<'a, Result<Event, Unreadable>>,
+    out: W,
 }
 
-// Takes a chunk of input in and answers its lines.
-fn play<W: Write>(
-    session: &mut Session,
-    chunk: &[u8],
-    intake: &mut Intake,
-    ahead: &mut Line<Option<Event>>,
-    out: &mut W,
-) -> io::Result<()> {
-    let mut rest = chunk;
-    for _ in 0..chunk.len() {
-        let taken = intake.take_in(rest, ahead);
-        rest = &rest[taken..];
-        answer_waiting(session, ahead, out)?;
-        if rest.is_empty() {
-            break;
-        }
+impl<'a, W: Write> Player<'a, W> {
+    // Answers a line.
+    fn answer(&mut self, line: Result<Event, Unreadable>) -> io::Result<()>
+        ensures { self.new.ahead ≡ self.old.ahead }
+    {
+        let answer = self.session.answer(line);
+        writeln!(self.out, "{answer}")
     }
-    Ok(())
+
+    // Answers the lines that wait, in order.
+    fn answer_waiting(&mut self) -> io::Result<()>
+        ensures { OnOk result (room self.new.ahead ≡ room self.old.ahead + length (waits self.old.ahead)) }
+    {
+        while let Some(line) = self.ahead.take() {
+            self.answer(line)?;
+        }
+        Ok(())
+    }
+
+    // Takes a chunk of input in and answers its lines.
+    fn play(&mut self, chunk: &[u8]) -> io::Result<()>
+        requires { 0 < room self.old.ahead }
+        ensures { OnOk result (0 < room self.new.ahead) }
+    {
+        let mut rest = chunk;
+        while !rest.is_empty() {
+            let taken = self.intake.take_in(rest, &mut self.ahead);
+            rest = &rest[taken..];
+            self.answer_waiting()?;
+        }
+        Ok(())
+    }
+
+    // The input is over: a line that has begun and has no end is answered too.
+    fn finish(&mut self) -> io::Result<()> {
+        if let Some(line) = self.intake.last() {
+            self.answer(line)?;
+        }
+        self.out.flush()
+    }
 }
 
 fn main(rt: HostRuntime) -> io::Result<()> {
     let mut input = rt.stdin();
-    let mut out = BufWriter::new(rt.alloc(), rt.stdout())?;
-    let mut slots = [None; AHEAD];
-    let mut ahead = Line::new(&mut slots);
-    let mut intake = Intake::new();
-    let mut session = Session::new();
+    let out = BufWriter::new(rt.alloc(), rt.stdout())?;
+    let mut slots = [Err(Unreadable); AHEAD];
+    let mut player = Player {
+        session: Session::new(),
+        intake: Intake::new(),
+        ahead: Line::new(&mut slots),
+        out,
+    };
     let mut chunk = [0u8; CHUNK];
     for _ in 0..u64::MAX {
         let count = input.read(&mut chunk)?;
         if count == 0 {
             break;
         }
-        play(
-            &mut session,
-            &chunk[0..count],
-            &mut intake,
-            &mut ahead,
-            &mut out,
-        )?;
+        player.play(&chunk[..count])?;
     }
-    if let Some(said) = intake.last() {
-        let answer = session.answer(said);
-        writeln!(out, "{answer}")?;
-    }
-    out.flush()
+    player.finish()
 }
