@@ -1,5 +1,5 @@
 -- A text read character by character.
-use Rattle.std.specs.List.{slice_split, onto_first, before_first, after_first, position, position_or_len}
+use Rattle.std.specs.List.{position, position_or_len}
 use Rattle.std.proofs.lemmas.Iterator.{YieldsList}
 use Rattle.std.proofs.lemmas.Iterator.Consumers.{YieldsList-turn, YieldsList-end, YieldsList-so_far}
 use Rattle.std.specs.Borrow.{Bor}
@@ -12,20 +12,14 @@ use Rattle.std.proofs.lemmas.List.Splits.{slice_split_first, slice_split_none}
 use Rattle.std.proofs.Common.{◌*◌, take-append-drop, MatchOption, map, ltb-true, ltb-false, Bool, ltb, ◌≡◌, ℕ, zero, suc, ◌+◌, ◌-◌, ◌<◌, ◌≤◌, true, false, cond, eqb, List, [], ◌∷◌, ◌++◌, length, get_or, take, drop, Some, None, Option, sym, refl, ap, ◌∙◌, append_assoc, append-nil, arith, length-append}
 use Rattle.std.specs.Option.{option_map}
 use Rattle.std.proofs.lemmas.List.{at_drop_more, take_rest, take_all}
-use Rattle.script.specs.Text.{first_part, other_parts, parts, add_digit, add_digits, number, octet, octets}
+use Rattle.script.specs.Text.{parts, add_digit, add_digits, number, octet, octets}
 use Rattle.std.proofs.lemmas.Bool.Decides.{nat_tests}
 use Rattle.vocabulary.specs.Octets.{sized}
-use Rattle.script.specs.Grammar.{onto, numbers, call, called}
+use Rattle.script.specs.Grammar.{onto, numbers}
 
-abbrev blank : ℕ → Bool
+-- whether a character is a blank
+abbrev pub blank : ℕ → Bool
 blank c = eqb c 32
-
--- the parts are those of std's split
-parts_split : (xs : List ℕ) → parts xs ≡ slice_split blank xs
-parts_split [] = refl
-parts_split (c ∷ cs) =
-    elim (eqb c 32) as (λ b. cond b [] (c ∷ first_part cs) ∷ cond b (parts cs) (other_parts cs) ≡ cond b ([] ∷ slice_split blank cs) (onto_first c (slice_split blank cs)))
-    [ true ↦ ap (λ ps. [] ∷ ps) (parts_split cs) | false ↦ ap (onto_first c) (parts_split cs) ]
 
 -- the first part ends at the first blank, and the others stand behind it
 pub cut_at : (xs : List ℕ) (i : ℕ) → Some i ≡ position blank xs → parts xs ≡ take i xs ∷ parts (take (length xs - (i + 1)) (drop (i + 1) xs))
@@ -35,7 +29,7 @@ cut_at xs i e = step (ltb (position_or_len blank xs) (length xs)) refl e ∙ ap 
     step true h q =
         let here : i ≡ position_or_len blank xs = cc in
         let inside : position_or_len blank xs < length xs = ltb-true _ _ h in
-        rw here (parts_split xs ∙ slice_split_first blank xs 0 inside ∙ ap (λ ps. before_first blank xs ∷ ps) (sym (parts_split (after_first blank xs))))
+        rw here (slice_split_first blank xs 0 inside)
     step false h q = cc
 
 -- a text with no blank is one part
@@ -46,7 +40,7 @@ uncut xs e = step (ltb (position_or_len blank xs) (length xs)) refl e
     step true h q = cc
     step false h q =
         let end = ltb-false _ _ h in
-        parts_split xs ∙ slice_split_none blank xs (All-from_get_or (λ c. blank c ≡ false) xs 0 (λ k l. fails_before_first blank xs k 0 (omega arith)))
+        slice_split_none blank xs (All-from_get_or (λ c. blank c ≡ false) xs 0 (λ k l. fails_before_first blank xs k 0 (omega arith)))
 
 -- each digit that fits leads on
 digits_on : {F : Type 0} (R : F × ℕ → Bor ℕ → F × ℕ → Type 0) → ((p q : F × ℕ) (x : Bor ℕ) → R p x q → add_digit p.1 x.now ≡ Some q.1)
@@ -140,8 +134,3 @@ numbers_more p xs ps n e = rw (numbers, e) (more (numbers ps))
 
 pub numbers_all : (xs : List ℕ) → length xs ≤ 9 → take 9 (xs ++ []) ≡ xs
 numbers_all xs h = ap (take 9) (append-nil xs) ∙ take_all 9 xs h
-
-pub called_one : (first : List ℕ) (ps : List (List ℕ)) → length first ≡ 1 → called first ps ≡ call (get_or first 0 0) ps
-called_one [] ps h = absurd (omega arith)
-called_one (c ∷ []) ps h = refl
-called_one (c ∷ (d ∷ cs)) ps h = absurd (omega arith)

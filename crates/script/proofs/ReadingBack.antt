@@ -4,42 +4,19 @@ use Rattle.std.specs.Option.{option_map}
 use Rattle.std.proofs.lemmas.Fmt.{decimal_by_steps, length-decimal-le}
 use Rattle.std.proofs.lemmas.List.{take_all}
 use Rattle.std.proofs.lemmas.Bool.Decides.{nat_tests}
+use Rattle.std.specs.List.{All}
+use Rattle.std.proofs.lemmas.List.Elements.{All-nil, All-cons, All-append}
+use Rattle.std.proofs.lemmas.List.Splits.{slice_split_none, slice_split_at}
+use Rattle.script.proofs.Reading.{blank}
 use Rattle.vocabulary.specs.Hex.{hex, hex_digit}
 use Rattle.vocabulary.specs.Octets.{sized}
-use Rattle.script.specs.Text.{first_part, other_parts, add_digit, add_digits, number, hex_value, octet, octets}
+use Rattle.script.specs.Text.{parts, add_digit, add_digits, number, hex_value, octet, octets}
 use Rattle.script.specs.Grammar.{anew, connected, lost, lost_for_good, came, status, announced, train_data, ticks, power_off, onto, numbers, three, call, reading}
 use Rattle.script.specs.Printed.{printed, spaced, EachBelow, ReadsBack}
 
--- no blank stands in a text
-NoBlank : List ℕ → Type 0
-NoBlank [] = Unit {0}
-NoBlank (c ∷ cs) = (eqb c 32 ≡ false) × NoBlank cs
-
-unblank_append : (xs ys : List ℕ) → NoBlank xs → NoBlank ys → NoBlank (xs ++ ys)
-unfolding NoBlank
-unblank_append [] ys h k = k
-unblank_append (x ∷ xs) ys h k = (h.0, unblank_append xs ys h.1 k)
-
--- such a text is one part, and a blank ends it
-first_whole : (xs : List ℕ) → NoBlank xs → first_part xs ≡ xs
-unfolding NoBlank
-first_whole [] h = refl
-first_whole (x ∷ xs) h = rw h.0 (ap (λ ys. x ∷ ys) (first_whole xs h.1))
-
-others_none : (xs : List ℕ) → NoBlank xs → other_parts xs ≡ []
-unfolding NoBlank
-others_none [] h = refl
-others_none (x ∷ xs) h = rw h.0 (others_none xs h.1)
-
-first_cut : (xs ys : List ℕ) → NoBlank xs → first_part (xs ++ 32 ∷ ys) ≡ xs
-unfolding NoBlank
-first_cut [] ys h = refl
-first_cut (x ∷ xs) ys h = rw h.0 (ap (λ zs. x ∷ zs) (first_cut xs ys h.1))
-
-others_cut : (xs ys : List ℕ) → NoBlank xs → other_parts (xs ++ 32 ∷ ys) ≡ first_part ys ∷ other_parts ys
-unfolding NoBlank
-others_cut [] ys h = refl
-others_cut (x ∷ xs) ys h = rw h.0 (others_cut xs ys h.1)
+-- a character that is no blank
+abbrev Solid : ℕ → Type 0
+Solid c = blank c ≡ false
 
 -- a digit more, at the end
 digits_push : (v c : ℕ) (xs : List ℕ) → add_digits v (xs ++ c ∷ []) ≡ onto (add_digits v xs) (λ w. add_digit w c)
@@ -67,22 +44,20 @@ last_digit n h =
 record Numeral (n : ℕ) (ds : List ℕ) : Type 0 where
   reads : add_digits 0 ds ≡ Some n
   some : 0 < length ds
-  solid : NoBlank ds
+  solid : All Solid ds
 
 one_digit : (n : ℕ) → n < 10 → Numeral n ((48 + n) ∷ [])
-unfolding NoBlank
 one_digit n h =
     let z : n / 10 ≡ 0 = omega arith in
     let m : n % 10 ≡ n = omega arith in
     let e : add_digit 0 (48 + n) ≡ Some n = subst (λ k. add_digit k (48 + n) ≡ Some n) z (subst (λ k. add_digit (n / 10) (48 + k) ≡ Some n) m (last_digit n (omega arith))) in
-    record { reads = rw (add_digits, e); some = omega arith; solid = (ne_eqb _ _ (λ q. omega arith), tt) }
+    record { reads = rw (add_digits, e); some = omega arith; solid = All-cons Solid _ [] (ne_eqb _ _ (λ q. omega arith)) (All-nil Solid) }
 
 more_digits : (n : ℕ) (ds : List ℕ) → n < 65536 → Numeral (n / 10) ds → Numeral n (ds ++ (48 + n % 10) ∷ [])
-unfolding NoBlank
 more_digits n ds h p = record {
   reads = digits_push 0 (48 + n % 10) ds ∙ ap (λ o. onto o (λ w. add_digit w (48 + n % 10))) p.reads ∙ last_digit n h;
   some = omega (arith, length-append ds ((48 + n % 10) ∷ []));
-  solid = unblank_append ds ((48 + n % 10) ∷ []) p.solid (ne_eqb _ _ (λ q. omega arith), tt);
+  solid = All-append Solid ds ((48 + n % 10) ∷ []) p.solid (All-cons Solid _ [] (ne_eqb _ _ (λ q. omega arith)) (All-nil Solid));
 }
 
 numeral : (n : ℕ) → n < 65536 → Numeral n (decimal n)
@@ -97,12 +72,10 @@ reads_decimal n h = some_number (decimal n) (numeral n h).some ∙ (numeral n h)
     some_number (d ∷ ds) l = refl
 
 -- the parts behind a text are the numbers, in digits
-parts_spaced : (xs ns : List ℕ) → NoBlank xs → EachBelow 65536 ns → (first_part (xs ++ spaced ns) ≡ xs) × (other_parts (xs ++ spaced ns) ≡ map decimal ns)
-parts_spaced xs [] h b = (ap first_part (append-nil xs) ∙ first_whole xs h, ap other_parts (append-nil xs) ∙ others_none xs h)
+parts_spaced : (xs ns : List ℕ) → All Solid xs → EachBelow 65536 ns → parts (xs ++ spaced ns) ≡ xs ∷ map decimal ns
+parts_spaced xs [] h b = ap parts (append-nil xs) ∙ slice_split_none blank xs h
 parts_spaced xs (n ∷ ns) h b =
-    let r = parts_spaced (decimal n) ns (numeral n b.0).solid b.1 in
-    let ys = decimal n ++ spaced ns in
-    (first_cut xs ys h, others_cut xs ys h ∙ ap (λ p. p ∷ other_parts ys) r.0 ∙ ap (λ ps. decimal n ∷ ps) r.1)
+    slice_split_at blank xs 32 (decimal n ++ spaced ns) h refl ∙ ap (λ ps. xs ∷ ps) (parts_spaced (decimal n) ns (numeral n b.0).solid b.1)
 
 numbers_decimal : (ns : List ℕ) → EachBelow 65536 ns → numbers (map decimal ns) ≡ Some ns
 numbers_decimal [] b = refl
@@ -135,10 +108,11 @@ reads_hex [] b = refl
 reads_hex (o ∷ os) b =
     rw (octets, reads_octet o b.0) (ap (option_map (λ ks. o ∷ ks)) (reads_hex os b.1))
 
-hex_solid : (os : List ℕ) → NoBlank (hex os)
-unfolding NoBlank
-hex_solid [] = tt
-hex_solid (o ∷ os) = (digit_solid (o / 16), (digit_solid (o % 16), hex_solid os))
+hex_solid : (os : List ℕ) → All Solid (hex os)
+hex_solid [] = All-nil Solid
+hex_solid (o ∷ os) =
+    let low = hex_digit (o % 16) in
+    All-cons Solid (hex_digit (o / 16)) (low ∷ hex os) (digit_solid (o / 16)) (All-cons Solid low (hex os) (digit_solid (o % 16)) (hex_solid os))
 
 length_hex : (os : List ℕ) → length (hex os) ≡ 2 * length os
 length_hex [] = refl
@@ -146,11 +120,9 @@ length_hex (o ∷ os) = omega (arith, length_hex os)
 
 -- a letter with numbers behind it is that call
 back_spaced : (c : ℕ) (ns : List ℕ) → eqb c 32 ≡ false → EachBelow 65536 ns → length ns ≤ 9 → reading (c ∷ spaced ns) ≡ call c (map decimal ns)
-unfolding NoBlank
 back_spaced c ns solid b few =
-    let r = parts_spaced (c ∷ []) ns (solid, tt) b in
     let short : leb (length (c ∷ spaced ns)) 512 ≡ true = le-leb _ _ (omega (arith, length_spaced ns b)) in
-    rw (reading, short, r.0, r.1)
+    rw (reading, short, parts_spaced (c ∷ []) ns (All-cons Solid c [] solid (All-nil Solid)) b)
 
 back_one : (c n : ℕ) → eqb c 32 ≡ false → n < 65536 → reading (c ∷ spaced (n ∷ [])) ≡ call c (decimal n ∷ [])
 back_one c n solid h = back_spaced c (n ∷ []) solid (h, tt) (omega arith)
@@ -161,10 +133,9 @@ back_numbers ns b few =
 
 back_message : (os : List ℕ) → EachBelow 256 os → 1 ≤ length os → length os ≤ 255 → reading (printed (came os)) ≡ Some (came os)
 back_message os b some few =
-    let solid = hex_solid os in
     let short : leb (length (109 ∷ (32 ∷ hex os))) 512 ≡ true = le-leb _ _ (omega (arith, length_hex os)) in
     let fits : sized 255 os ≡ Some os = in_size_lem os some few in
-    rw (reading, short, first_whole (hex os) solid, others_none (hex os) solid, reads_hex os b, fits)
+    rw (reading, short, slice_split_none blank (hex os) (hex_solid os), reads_hex os b, fits)
   where
     in_size_lem : (os : List ℕ) → 1 ≤ length os → length os ≤ 255 → sized 255 os ≡ Some os
     in_size_lem os h k = let a = le-leb _ _ h in let b = le-leb _ _ k in rw (a, b)

@@ -2,7 +2,7 @@
 use Rattle.std.specs.Prelude.{ℕ, Bool, true, false, cond, List, [], ◌∷◌, length, take, Some, None, codes, Option, ◌==◌, nat_le}
 use Rattle.std.specs.Option.{option_map}
 use Rattle.vocabulary.specs.Octets.{sized}
-use Rattle.script.specs.Text.{number, octets, first_part, other_parts}
+use Rattle.script.specs.Text.{number, octets, parts}
 
 -- What a line says.
 pub data Said : Type 0 where
@@ -86,11 +86,12 @@ call c ps =
     (cond (is (codes "p") c) (no_part ps) None)))))))))
 
 -- A call by its first part, which is one letter.
-abbrev pub called : List ℕ → List (List ℕ) → Option Said
-called [] ps = None
-called (c ∷ []) ps = call c ps
-called (c ∷ (d ∷ cs)) ps = None
+abbrev pub called : List (List ℕ) → Option Said
+called [] = None
+called ([] ∷ ps) = None
+called ((c ∷ []) ∷ ps) = call c ps
+called ((c ∷ (d ∷ cs)) ∷ ps) = None
 
 -- A line of at most 512 characters whose parts are a call.
 abbrev pub reading : List ℕ → Option Said
-reading line = cond (nat_le (length line) 512) (called (first_part line) (other_parts line)) None
+reading line = cond (nat_le (length line) 512) (called (parts line)) None

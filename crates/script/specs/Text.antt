@@ -1,20 +1,11 @@
 -- Parts of a line, numbers and octets as text. Characters are their codes.
 use Rattle.std.specs.Prelude.{ℕ, ◌+◌, ◌-◌, ◌*◌, cond, ◌&&◌, List, [], ◌∷◌, Some, None, Option, ◌==◌, nat_le}
+use Rattle.std.specs.List.{slice_split}
 use Rattle.std.specs.Option.{option_map}
 
--- A blank, 32, cuts a line into parts. The first part: all up to the first blank.
-abbrev pub first_part : List ℕ → List ℕ
-first_part [] = []
-first_part (c ∷ cs) = cond (c == 32) [] (c ∷ first_part cs)
-
--- The other parts, one behind each blank. A part may be empty.
-abbrev pub other_parts : List ℕ → List (List ℕ)
-other_parts [] = []
-other_parts (c ∷ cs) = cond (c == 32) (first_part cs ∷ other_parts cs) (other_parts cs)
-
--- All parts.
+-- The parts of a line. A blank, 32, cuts it: one part stands before the first blank, and one behind each. A part may be empty.
 abbrev pub parts : List ℕ → List (List ℕ)
-parts text = first_part text ∷ other_parts text
+parts line = slice_split (λ c. c == 32) line
 
 -- A number, with a digit more: none if the character is no digit, 48 to 57, or the number passes 65535.
 abbrev pub add_digit : ℕ → ℕ → Option ℕ
