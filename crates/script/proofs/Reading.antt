@@ -10,12 +10,12 @@ use Rattle.std.proofs.lemmas.List.Elements.{All-from_get_or}
 use Rattle.std.proofs.lemmas.List.Sums.{fails_before_first}
 use Rattle.std.proofs.lemmas.List.Splits.{slice_split_first, slice_split_none}
 use Rattle.std.proofs.Common.{◌*◌, take-append-drop, MatchOption, map, ltb-true, ltb-false, Bool, ltb, ◌≡◌, ℕ, zero, suc, ◌+◌, ◌-◌, ◌<◌, ◌≤◌, true, false, cond, eqb, List, [], ◌∷◌, ◌++◌, length, get_or, take, drop, Some, None, Option, sym, refl, ap, ◌∙◌, append_assoc, append-nil, arith, length-append}
-use Rattle.std.specs.Option.{option_map}
+use Rattle.std.specs.Option.{option_map, option_and_then}
 use Rattle.std.proofs.lemmas.List.{at_drop_more, take_rest, take_all}
 use Rattle.script.specs.Text.{parts, add_digit, add_digits, number, octet, octets}
 use Rattle.std.proofs.lemmas.Bool.Decides.{nat_tests}
 use Rattle.vocabulary.specs.Octets.{sized}
-use Rattle.script.specs.Grammar.{onto, numbers}
+use Rattle.script.specs.Grammar.{numbers}
 
 -- whether a character is a blank
 abbrev pub blank : ℕ → Bool
@@ -73,29 +73,25 @@ number_some (c ∷ cs) h = refl
 -- octets by their pairs of digits
 abbrev pub by_pairs : List (List ℕ) → Option (List ℕ)
 by_pairs [] = Some []
-by_pairs (p ∷ ps) = onto (octet (get_or p 0 0) (get_or p 1 0)) (λ o. option_map (λ os. o ∷ os) (by_pairs ps))
+by_pairs (p ∷ ps) = option_and_then (λ o. option_map (λ os. o ∷ os) (by_pairs ps)) (octet (get_or p 0 0) (get_or p 1 0))
 
 pub in_pairs : (n : ℕ) (xs : List ℕ) → length xs ≡ n * 2 → by_pairs (first_chunks 2 n xs) ≡ octets xs
 in_pairs zero [] h = refl
 in_pairs zero (c ∷ cs) h = absurd (omega arith)
 in_pairs (suc n) [] h = absurd (omega arith)
 in_pairs (suc n) (c ∷ []) h = absurd (omega arith)
-in_pairs (suc n) (c ∷ (d ∷ cs)) h = rw (in_pairs n cs (omega arith)) (same (octet c d))
-  where
-    same : (q : Option ℕ) → onto q (λ o. option_map (λ os. o ∷ os) (octets cs)) ≡ elim q as (λ _. Option (List ℕ)) [ Some o ↦ option_map (λ os. o ∷ os) (octets cs) | None ↦ None ]
-    same None = refl
-    same (Some o) = refl
+in_pairs (suc n) (c ∷ (d ∷ cs)) h = rw (in_pairs n cs (omega arith))
 
 -- an odd digit is no octet
 pub odd_one : (n : ℕ) (xs : List ℕ) → length xs ≡ n * 2 + 1 → octets xs ≡ None
 odd_one n [] h = absurd (omega arith)
 odd_one n (c ∷ []) h = refl
 odd_one zero (c ∷ (d ∷ cs)) h = absurd (omega arith)
-odd_one (suc n) (c ∷ (d ∷ cs)) h = none (octets cs) (odd_one n cs (omega arith)) (octet c d)
+odd_one (suc n) (c ∷ (d ∷ cs)) h = none (octet c d) (octets cs) (odd_one n cs (omega arith))
   where
-    none : (r : Option (List ℕ)) → r ≡ None → (q : Option ℕ) → elim q as (λ _. Option (List ℕ)) [ Some o ↦ option_map (λ os. o ∷ os) r | None ↦ None ] ≡ None
-    none r e None = refl
-    none r e (Some o) = ap (option_map (λ os. o ∷ os)) e
+    none : (q : Option ℕ) (r : Option (List ℕ)) → r ≡ None → option_and_then (λ o. option_map (λ os. o ∷ os) r) q ≡ None
+    none None r e = refl
+    none (Some o) r e = ap (option_map (λ os. o ∷ os)) e
 
 -- the octets that are held, and those of the pairs behind
 abbrev pub with_held : List ℕ → List (List ℕ) → Option (List ℕ)
@@ -111,10 +107,10 @@ module _ (held : List ℕ) (ps : List (List ℕ)) (i o : ℕ) (h : i < length ps
       moved (Some os) = ap Some (append_assoc held (o ∷ []) os)
 
   -- or is one too many
-  pub pair_full : length held ≡ 255 → None ≡ onto (with_held held (drop i ps)) (sized 255)
+  pub pair_full : length held ≡ 255 → None ≡ option_and_then (sized 255) (with_held held (drop i ps))
   pair_full l = rw (at_drop_more (with_held held) ps i [] h, e) (over (by_pairs (drop (i + 1) ps)))
     where
-      over : (q : Option (List ℕ)) → None ≡ onto (option_map (λ os. held ++ os) (option_map (λ os. o ∷ os) q)) (sized 255)
+      over : (q : Option (List ℕ)) → None ≡ option_and_then (sized 255) (option_map (λ os. held ++ os) (option_map (λ os. o ∷ os) q))
       over None = refl
       over (Some os) = let k = length-append held (o ∷ os) in grind (arith, nat_tests)
 

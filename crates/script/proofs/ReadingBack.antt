@@ -1,6 +1,6 @@
 -- What is printed is read as itself.
 use Rattle.std.proofs.Common.{◌≡◌, ℕ, ◌+◌, ◌-◌, ◌*◌, ◌/◌, ◌%◌, ◌<◌, ◌≤◌, true, false, cond, eqb, ltb, leb, List, [], ◌∷◌, ◌++◌, map, length, take, Some, None, decimal, Option, refl, ap, ◌∙◌, subst, append-nil, arith, length-append, ne_eqb, le-leb}
-use Rattle.std.specs.Option.{option_map}
+use Rattle.std.specs.Option.{option_map, option_and_then}
 use Rattle.std.proofs.lemmas.Fmt.{decimal_by_steps, length-decimal-le}
 use Rattle.std.proofs.lemmas.List.{take_all}
 use Rattle.std.proofs.lemmas.Bool.Decides.{nat_tests}
@@ -11,7 +11,7 @@ use Rattle.script.proofs.Reading.{blank}
 use Rattle.vocabulary.specs.Hex.{hex, hex_digit}
 use Rattle.vocabulary.specs.Octets.{sized}
 use Rattle.script.specs.Text.{parts, add_digit, add_digits, number, hex_value, octet, octets}
-use Rattle.script.specs.Grammar.{anew, connected, lost, lost_for_good, came, status, announced, train_data, ticks, power_off, onto, numbers, three, call, reading}
+use Rattle.script.specs.Grammar.{anew, connected, lost, lost_for_good, came, status, announced, train_data, ticks, power_off, numbers, three, call, reading}
 use Rattle.script.specs.Printed.{printed, spaced, EachBelow, ReadsBack}
 
 -- a character that is no blank
@@ -19,16 +19,16 @@ abbrev Solid : ℕ → Type 0
 Solid c = blank c ≡ false
 
 -- a digit more, at the end
-digits_push : (v c : ℕ) (xs : List ℕ) → add_digits v (xs ++ c ∷ []) ≡ onto (add_digits v xs) (λ w. add_digit w c)
+digits_push : (v c : ℕ) (xs : List ℕ) → add_digits v (xs ++ c ∷ []) ≡ option_and_then (λ w. add_digit w c) (add_digits v xs)
 digits_push v c [] = same (add_digit v c)
   where
-    same : (o : Option ℕ) → elim o as (λ _. Option ℕ) [ Some next ↦ Some next | None ↦ None ] ≡ o
+    same : (o : Option ℕ) → option_and_then (λ w. Some w) o ≡ o
     same None = refl
     same (Some w) = refl
 digits_push v c (x ∷ xs) = step (λ w. digits_push w c xs) (add_digit v x)
   where
-    step : ((w : ℕ) → add_digits w (xs ++ c ∷ []) ≡ onto (add_digits w xs) (λ u. add_digit u c)) → (o : Option ℕ) → elim o as (λ _. Option ℕ) [ Some next ↦ add_digits next (xs ++ c ∷ []) | None ↦ None ]
-        ≡ onto (elim o as (λ _. Option ℕ) [ Some next ↦ add_digits next xs | None ↦ None ]) (λ w. add_digit w c)
+    step : ((w : ℕ) → add_digits w (xs ++ c ∷ []) ≡ option_and_then (λ u. add_digit u c) (add_digits w xs)) → (o : Option ℕ)
+        → option_and_then (λ w. add_digits w (xs ++ c ∷ [])) o ≡ option_and_then (λ u. add_digit u c) (option_and_then (λ w. add_digits w xs) o)
     step more None = refl
     step more (Some w) = more w
 
@@ -55,7 +55,7 @@ one_digit n h =
 
 more_digits : (n : ℕ) (ds : List ℕ) → n < 65536 → Numeral (n / 10) ds → Numeral n (ds ++ (48 + n % 10) ∷ [])
 more_digits n ds h p = record {
-  reads = digits_push 0 (48 + n % 10) ds ∙ ap (λ o. onto o (λ w. add_digit w (48 + n % 10))) p.reads ∙ last_digit n h;
+  reads = digits_push 0 (48 + n % 10) ds ∙ ap (option_and_then (λ w. add_digit w (48 + n % 10))) p.reads ∙ last_digit n h;
   some = omega (arith, length-append ds ((48 + n % 10) ∷ []));
   solid = All-append Solid ds ((48 + n % 10) ∷ []) p.solid (All-cons Solid _ [] (ne_eqb _ _ (λ q. omega arith)) (All-nil Solid));
 }
@@ -80,7 +80,7 @@ parts_spaced xs (n ∷ ns) h b =
 numbers_decimal : (ns : List ℕ) → EachBelow 65536 ns → numbers (map decimal ns) ≡ Some ns
 numbers_decimal [] b = refl
 numbers_decimal (n ∷ ns) b =
-    ap (λ o. onto o (λ k. option_map (λ ks. k ∷ ks) (numbers (map decimal ns)))) (reads_decimal n b.0)
+    ap (option_and_then (λ k. option_map (λ ks. k ∷ ks) (numbers (map decimal ns)))) (reads_decimal n b.0)
     ∙ ap (option_map (λ ks. n ∷ ks)) (numbers_decimal ns b.1)
 
 length_spaced : (ns : List ℕ) → EachBelow 65536 ns → length (spaced ns) ≤ 6 * length ns
@@ -148,7 +148,7 @@ reads_back (lost_for_good n) h = back_one 102 n refl h ∙ ap (option_map lost_f
 reads_back (came os) h = back_message os h.0 h.1 h.2
 reads_back (status level number mode) h =
     let ns = level ∷ (number ∷ (mode ∷ [])) in
-    back_spaced 115 ns refl h (omega arith) ∙ ap (λ o. onto o three) (numbers_decimal ns h)
+    back_spaced 115 ns refl h (omega arith) ∙ ap (option_and_then three) (numbers_decimal ns h)
 reads_back (announced n) h = back_one 97 n refl h ∙ ap (option_map announced) (reads_decimal n h)
 reads_back (train_data true) h = refl
 reads_back (train_data false) h = refl

@@ -1,6 +1,6 @@
 -- Which lines are readable, and as what.
 use Rattle.std.specs.Prelude.{ℕ, Bool, true, false, cond, List, [], ◌∷◌, length, take, Some, None, codes, Option, ◌==◌, nat_le}
-use Rattle.std.specs.Option.{option_map}
+use Rattle.std.specs.Option.{option_map, option_and_then}
 use Rattle.vocabulary.specs.Octets.{sized}
 use Rattle.script.specs.Text.{number, octets, parts}
 
@@ -24,11 +24,6 @@ pub data Said : Type 0 where
   ticks : ℕ → Said
   power_off : Said
 
--- What an answer leads to, if there is one.
-abbrev pub onto : {X Y : Type 0} → Option X → (X → Option Y) → Option Y
-onto None f = None
-onto (Some x) f = f x
-
 -- Parts that are one part only.
 abbrev pub one_part : List (List ℕ) → Option (List ℕ)
 one_part [] = None
@@ -37,12 +32,12 @@ one_part (p ∷ (q ∷ ps)) = None
 
 -- Parts that are one number only.
 abbrev pub one_number : List (List ℕ) → Option ℕ
-one_number ps = onto (one_part ps) number
+one_number ps = option_and_then number (one_part ps)
 
 -- Parts that are numbers, any count of them.
 abbrev pub numbers : List (List ℕ) → Option (List ℕ)
 numbers [] = Some []
-numbers (p ∷ ps) = onto (number p) (λ n. option_map (λ ns. n ∷ ns) (numbers ps))
+numbers (p ∷ ps) = option_and_then (λ n. option_map (λ ns. n ∷ ns) (numbers ps)) (number p)
 
 -- Numbers that are three: level, national number and mode.
 abbrev pub three : List ℕ → Option Said
@@ -58,7 +53,7 @@ flag n = cond (n == 0) (Some (train_data false)) (cond (n == 1) (Some (train_dat
 
 -- 1 to 255 octets.
 abbrev pub sized_octets : List ℕ → Option (List ℕ)
-sized_octets text = onto (octets text) (sized 255)
+sized_octets text = option_and_then (sized 255) (octets text)
 
 -- Whether a character is the one that is written here.
 abbrev pub is : List ℕ → ℕ → Bool
@@ -78,10 +73,10 @@ call c ps =
     (cond (is (codes "c") c) (option_map connected (one_number ps))
     (cond (is (codes "l") c) (option_map lost (one_number ps))
     (cond (is (codes "f") c) (option_map lost_for_good (one_number ps))
-    (cond (is (codes "m") c) (option_map came (onto (one_part ps) sized_octets))
-    (cond (is (codes "s") c) (onto (numbers ps) three)
+    (cond (is (codes "m") c) (option_map came (option_and_then sized_octets (one_part ps)))
+    (cond (is (codes "s") c) (option_and_then three (numbers ps))
     (cond (is (codes "a") c) (option_map announced (one_number ps))
-    (cond (is (codes "v") c) (onto (one_number ps) flag)
+    (cond (is (codes "v") c) (option_and_then flag (one_number ps))
     (cond (is (codes "t") c) (option_map ticks (one_number ps))
     (cond (is (codes "p") c) (no_part ps) None)))))))))
 

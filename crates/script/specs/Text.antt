@@ -1,7 +1,7 @@
 -- Parts of a line, numbers and octets as text. Characters are their codes.
 use Rattle.std.specs.Prelude.{ℕ, ◌+◌, ◌-◌, ◌*◌, cond, ◌&&◌, List, [], ◌∷◌, Some, None, Option, ◌==◌, nat_le}
 use Rattle.std.specs.List.{slice_split}
-use Rattle.std.specs.Option.{option_map}
+use Rattle.std.specs.Option.{option_map, option_and_then}
 
 -- The parts of a line. A blank, 32, cuts it: one part stands before the first blank, and one behind each. A part may be empty.
 abbrev pub parts : List ℕ → List (List ℕ)
@@ -14,7 +14,7 @@ add_digit value c = cond (nat_le 48 c && (nat_le c 57 && nat_le (10 * value + (c
 -- A number, with these digits more.
 abbrev pub add_digits : ℕ → List ℕ → Option ℕ
 add_digits value [] = Some value
-add_digits value (c ∷ cs) = elim (add_digit value c) [ Some next ↦ add_digits next cs | None ↦ None ]
+add_digits value (c ∷ cs) = option_and_then (λ next. add_digits next cs) (add_digit value c)
 
 -- A part that is a number: at least one digit, leading zeros too, and at most 65535.
 abbrev pub number : List ℕ → Option ℕ
@@ -27,10 +27,10 @@ hex_value c = cond (nat_le 48 c && nat_le c 57) (Some (c - 48)) (cond (nat_le 65
 
 -- An octet of two digits, the high one first.
 abbrev pub octet : ℕ → ℕ → Option ℕ
-octet high low = elim (hex_value high) [ Some h ↦ option_map (λ l. 16 * h + l) (hex_value low) | None ↦ None ]
+octet high low = option_and_then (λ h. option_map (λ l. 16 * h + l) (hex_value low)) (hex_value high)
 
 -- A part that is octets, each of two digits and unspaced.
 abbrev pub octets : List ℕ → Option (List ℕ)
 octets [] = Some []
 octets (c ∷ []) = None
-octets (c ∷ (d ∷ cs)) = elim (octet c d) [ Some o ↦ option_map (λ os. o ∷ os) (octets cs) | None ↦ None ]
+octets (c ∷ (d ∷ cs)) = option_and_then (λ o. option_map (λ os. o ∷ os) (octets cs)) (octet c d)

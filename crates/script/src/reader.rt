@@ -1,7 +1,7 @@
 // The reader of a line.
 ghost use Rattle.std.specs.Prelude.{◌≡◌, length, take, nat_le};
-ghost use Rattle.std.specs.Option.{option_map};
-ghost use Rattle.script.specs.Grammar.{call as call_of, came, one_part, one_number, no_part, numbers, three, flag, reading, onto, sized_octets};
+ghost use Rattle.std.specs.Option.{option_map, option_and_then};
+ghost use Rattle.script.specs.Grammar.{call as call_of, came, one_part, one_number, no_part, numbers, three, flag, reading, sized_octets};
 ghost use Rattle.script.specs.Meaning.{said, says, numbers_of, to_come};
 ghost use Rattle.script.specs.Printed.{ReadsBack};
 
@@ -41,7 +41,7 @@ fn all_numbers(parts: Parts) -> Option<Numbers>
 
 // Level, national number and mode.
 fn status(parts: Parts) -> Option<Event>
-    ensures { option_map said result ≡ onto (numbers (to_come parts.entry)) three }
+    ensures { option_map said result ≡ option_and_then three (numbers (to_come parts.entry)) }
 {
     let read = all_numbers(parts)?;
     let &[level, number, mode] = read.as_slice() else {
@@ -67,7 +67,7 @@ fn train_data(number: u16) -> Option<Event>
 
 // A message by its octets.
 fn message(parts: Parts) -> Option<Event>
-    ensures { option_map said result ≡ option_map came (onto (one_part (to_come parts.entry)) sized_octets) }
+    ensures { option_map said result ≡ option_map came (option_and_then sized_octets (one_part (to_come parts.entry))) }
 {
     one_part(parts).and_then(read_octets).map(Event::Message)
 }
