@@ -20,5 +20,5 @@ pub enum Event {
 }
 
 // A line that is none of these.
-#[derive(Clone, Copy, PartialEq, Eq, Debug, Drop)]
+#[derive(Clone, Copy, PartialEq, Eq, Debug)]
 pub struct Unreadable;

@@ -7,8 +7,9 @@ ghost use Rattle.script.specs.Meaning.{behind, to_come};
 // What parts a line from what stands before it.
 const BLANK: u8 = b' ';
 
-// The parts that are to come. `rest` is the text that begins with the next one.
-#[derive(Clone, Copy, Drop)]
+// The parts that are to come, as std's `split` gives them, by a type that clauses can name without the closure.
+// `rest` is the text that begins with the next one.
+#[derive(Clone, Copy)]
 pub struct Parts<'a> {
     rest: Option<&'a [u8]>,
 }
