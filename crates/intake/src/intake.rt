@@ -29,9 +29,9 @@ impl Intake {
         Intake { octets: Few::new() }
     }
 
-    #[tactic(auto, using(crate::proofs::Taking::as_they_read))]
     // Takes octets in until they are at their end or no more event can wait, and tells how many it took.
     // Each line that ends in them waits behind the others, as it reads.
+    #[tactic(auto, using(crate::proofs::Taking::as_they_read))]
     pub fn take_in(&mut self, octets: &[u8], ahead: &mut Line<Result<Event, Unreadable>>) -> usize
         ensures within { result ≤ length octets.now }
         ensures stops { result < length octets.now → room ahead.new ≡ 0 }
@@ -76,8 +76,8 @@ impl Intake {
         }
     }
 
-    #[tactic(auto, using(crate::proofs::Taking::kept))]
     // One octet of the line more; beyond 513 it is passed over.
+    #[tactic(auto, using(crate::proofs::Taking::kept))]
     fn add(&mut self, octet: u8)
         ensures { so_far self.new ≡ keep (so_far self.old) octet }
     {

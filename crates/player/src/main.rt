@@ -81,6 +81,7 @@ fn main(rt: HostRuntime) -> io::Result<()> {
         out,
     };
     let mut chunk = [0u8; CHUNK];
+    // Input may never end, and each loop is proved to: so it is a counted one.
     for _ in 0..u64::MAX {
         let count = input.read(&mut chunk)?;
         if count == 0 {

@@ -1,5 +1,5 @@
 // The parts of a line.
-ghost use Rattle.std.specs.Prelude.{◌≡◌, ◌∷◌, [], ◌==◌, position};
+ghost use Rattle.std.specs.Prelude.{◌≡◌, ◌∷◌, ◌==◌, position};
 ghost use Rattle.std.specs.Iterator.{YieldsFirstRef, item_count};
 ghost use Rattle.script.specs.Text.{parts};
 ghost use Rattle.script.specs.Meaning.{behind, to_come};
@@ -21,8 +21,8 @@ fn blank_in(text: &[u8]) -> Option<usize>
     text.iter().position(|c| *c == BLANK)
 }
 
-#[tactic(auto, using(crate::proofs::Reading::cut_at, crate::proofs::Reading::uncut))]
 // The first part of a text, and the text behind the blank that ends it, if one does.
+#[tactic(auto, using(crate::proofs::Reading::cut_at, crate::proofs::Reading::uncut))]
 fn cut(text: &[u8]) -> (&[u8], Option<&[u8]>)
     ensures { parts text.now ≡ result.0.now ∷ behind result.1 }
 {

@@ -1,8 +1,8 @@
 // Numbers and octets as text.
 ghost use Rattle.std.specs.Prelude.{◌≡◌, Some, None};
 ghost use Rattle.std.specs.Option.{option_map};
-ghost use Rattle.vocabulary.specs.Octets.{octets_of, sized};
-ghost use Rattle.script.specs.Text.{add_digit, number, hex_value, octet as octet_of, octets};
+ghost use Rattle.vocabulary.specs.Octets.{octets_of};
+ghost use Rattle.script.specs.Text.{add_digit, number, hex_value, octet as octet_of};
 ghost use Rattle.script.specs.Grammar.{sized_octets};
 
 use few::Few;
