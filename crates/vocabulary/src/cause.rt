@@ -1,6 +1,6 @@
 // Why the control holds an STM for failed.
 ghost use Rattle.std.specs.Prelude.{◌≡◌};
-ghost use Rattle.vocabulary.specs.Numbers.{case_of, Names, Numbered};
+ghost use Rattle.vocabulary.specs.Numbers.{Numbered};
 ghost use Rattle.vocabulary.specs.Causes.{cause_number, causes};
 
 use crate::numbers::UnknownNumber;
@@ -24,42 +24,6 @@ pub enum Cause {
     FinalDisconnection = 7,
     // The unit reported Failure itself.
     OwnReport = 8,
-}
-
-impl Cause {
-    // The cause's number.
-    pub fn number(self) -> u8
-        ensures { result ≡ cause_number self }
-    {
-        match self {
-            Cause::Request => 1,
-            Cause::Report => 2,
-            Cause::Time => 3,
-            Cause::TimeToDataAvailable => 4,
-            Cause::TimeWithoutNotice => 5,
-            Cause::TimeAfterNotice => 6,
-            Cause::FinalDisconnection => 7,
-            Cause::OwnReport => 8,
-        }
-    }
-
-    // The cause with this number, if there is one.
-    pub fn from_number(number: u8) -> Option<Cause>
-        ensures value { result ≡ case_of cause_number causes number }
-        ensures names { Names cause_number number result }
-    {
-        match number {
-            1 => Some(Cause::Request),
-            2 => Some(Cause::Report),
-            3 => Some(Cause::Time),
-            4 => Some(Cause::TimeToDataAvailable),
-            5 => Some(Cause::TimeWithoutNotice),
-            6 => Some(Cause::TimeAfterNotice),
-            7 => Some(Cause::FinalDisconnection),
-            8 => Some(Cause::OwnReport),
-            _ => None,
-        }
-    }
 }
 
 // The number of a cause.

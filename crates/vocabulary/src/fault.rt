@@ -1,6 +1,6 @@
 // What is handed back when something is refused.
 ghost use Rattle.std.specs.Prelude.{◌≡◌, Some};
-ghost use Rattle.vocabulary.specs.Numbers.{case_of, Names, Numbered};
+ghost use Rattle.vocabulary.specs.Numbers.{Numbered};
 ghost use Rattle.vocabulary.specs.Refusals.{refusal_number, refusals, layer_name, fault_at, fault_number, fault_text};
 
 use crate::numbers::UnknownNumber;
@@ -16,27 +16,18 @@ pub enum Layer {
     Log,
 }
 
-impl Layer {
-    // The layer's name, for people.
-    pub fn name(self) -> &'static str
-        ensures { result.now ≡ layer_name self }
-    {
-        match self {
-            Layer::Control => "control",
-            Layer::Message => "message",
-            Layer::Packet => "packet",
-            Layer::Carrier => "carrier",
-            Layer::Log => "log",
-        }
-    }
-}
-
 // The layer's name, for people.
 impl fmt::Display for Layer {
     ghost output = { λ l. Some (layer_name l) };
 
     fn fmt<W: fmt::Write>(&self, f: &mut fmt::Formatter<W>) -> fmt::Result {
-        f.write_str(self.name())
+        f.write_str(match self {
+            Layer::Control => "control",
+            Layer::Message => "message",
+            Layer::Packet => "packet",
+            Layer::Carrier => "carrier",
+            Layer::Log => "log",
+        })
     }
 }
 
@@ -67,50 +58,6 @@ pub enum Refusal {
     Full = 11,
     // What does not fit its field, or its frame.
     Misfit = 12,
-}
-
-impl Refusal {
-    // The refusal's number.
-    pub fn number(self) -> u8
-        ensures { result ≡ refusal_number self }
-    {
-        match self {
-            Refusal::Settings => 1,
-            Refusal::UnknownStm => 2,
-            Refusal::MessageLength => 3,
-            Refusal::PacketCut => 4,
-            Refusal::PacketLength => 5,
-            Refusal::Link => 6,
-            Refusal::Barred => 7,
-            Refusal::Greeting => 8,
-            Refusal::Range => 9,
-            Refusal::Log => 10,
-            Refusal::Full => 11,
-            Refusal::Misfit => 12,
-        }
-    }
-
-    // The refusal with this number, if there is one.
-    pub fn from_number(number: u8) -> Option<Refusal>
-        ensures value { result ≡ case_of refusal_number refusals number }
-        ensures names { Names refusal_number number result }
-    {
-        match number {
-            1 => Some(Refusal::Settings),
-            2 => Some(Refusal::UnknownStm),
-            3 => Some(Refusal::MessageLength),
-            4 => Some(Refusal::PacketCut),
-            5 => Some(Refusal::PacketLength),
-            6 => Some(Refusal::Link),
-            7 => Some(Refusal::Barred),
-            8 => Some(Refusal::Greeting),
-            9 => Some(Refusal::Range),
-            10 => Some(Refusal::Log),
-            11 => Some(Refusal::Full),
-            12 => Some(Refusal::Misfit),
-            _ => None,
-        }
-    }
 }
 
 // The number of a refusal.
@@ -148,7 +95,7 @@ impl TryFrom<u8> for Refusal {
 }
 
 // A refusal with the place that it is about, a bit of a message, an octet of a file or a part of
-// the settings (0 where there is none), and the layer that refuses.
+// the settings, and the layer that refuses. Where there is no place it is 0: a rule of the answers, so no `Option`.
 #[derive(Clone, Copy, PartialEq, Eq, Debug)]
 pub struct Fault {
     pub cause: Refusal,
@@ -172,7 +119,7 @@ impl Fault {
     pub fn number(&self) -> u8
         ensures { result ≡ fault_number self.now }
     {
-        self.cause.number()
+        u8::from(self.cause)
     }
 }
 

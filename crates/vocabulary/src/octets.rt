@@ -39,14 +39,7 @@ impl<'a, const N: usize> TryFrom<&'a [u8]> for Octets<N> {
 }
 
 impl<const N: usize> Octets<N> {
-    ghost use Rattle.vocabulary.specs.Octets.{octets_of, sized};
-
-    // These octets, if there are 1 to N of them.
-    pub fn new(octets: &[u8]) -> Option<Octets<N>>
-        ensures { option_map octets_of result ≡ sized N octets.now }
-    {
-        Octets::try_from(octets).ok()
-    }
+    ghost use Rattle.vocabulary.specs.Octets.{octets_of};
 
     // How many they are.
     pub fn len(&self) -> usize

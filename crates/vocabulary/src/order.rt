@@ -1,6 +1,6 @@
 // The orders to an STM.
 ghost use Rattle.std.specs.Prelude.{◌≡◌};
-ghost use Rattle.vocabulary.specs.Numbers.{case_of, Names, Numbered};
+ghost use Rattle.vocabulary.specs.Numbers.{Numbered};
 ghost use Rattle.vocabulary.specs.States.{order_number, orders, target_of};
 
 use crate::numbers::UnknownNumber;
@@ -19,36 +19,6 @@ pub enum Order {
 }
 
 impl Order {
-    // The number that STM-14 bears for this order.
-    pub fn number(self) -> u8
-        ensures { result ≡ order_number self }
-    {
-        match self {
-            Order::ToConfiguration => 2,
-            Order::ToDataEntry => 3,
-            Order::ToColdStandby => 4,
-            Order::ToColdStandbyConditionally => 5,
-            Order::ToHotStandby => 6,
-            Order::ToDataAvailable => 7,
-        }
-    }
-
-    // The order with this number, if there is one.
-    pub fn from_number(number: u8) -> Option<Order>
-        ensures value { result ≡ case_of order_number orders number }
-        ensures names { Names order_number number result }
-    {
-        match number {
-            2 => Some(Order::ToConfiguration),
-            3 => Some(Order::ToDataEntry),
-            4 => Some(Order::ToColdStandby),
-            5 => Some(Order::ToColdStandbyConditionally),
-            6 => Some(Order::ToHotStandby),
-            7 => Some(Order::ToDataAvailable),
-            _ => None,
-        }
-    }
-
     // The state whose report answers this order.
     pub fn target(self) -> State
         ensures { result ≡ target_of self }

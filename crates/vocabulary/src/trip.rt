@@ -41,21 +41,3 @@ impl From<TripNumber> for u8 {
         trip.number
     }
 }
-
-impl TripNumber {
-    ghost use Rattle.vocabulary.specs.Settings.{trip_of};
-
-    // This number, unless it is taken.
-    pub fn new(number: u8) -> Option<TripNumber>
-        ensures { option_map trip_of result ≡ (if taken number then None else Some number) }
-    {
-        TripNumber::try_from(number).ok()
-    }
-
-    // The packet number.
-    pub fn number(self) -> u8
-        ensures { result ≡ trip_of self }
-    {
-        self.number
-    }
-}
