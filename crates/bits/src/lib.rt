@@ -10,7 +10,8 @@ pub mod bits;
 // How many bits an octet has.
 pub const OCTET: usize = 8;
 
-const LAST: usize = 7;
+// The last bit of an octet.
+pub const LAST: usize = OCTET - 1;
 
 // The octet that a bit stands in.
 fn octet_of(i: usize) -> usize

@@ -20,6 +20,7 @@ pub enum Kind {
     TripNotice,
 }
 
+// A trip notice's number is a setting, so neither way is a `From` or a `TryFrom`.
 impl Kind {
     // The packet's number, where a trip notice has the number `trip`.
     pub fn number(self, trip: u8) -> u8

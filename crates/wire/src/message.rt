@@ -27,8 +27,8 @@ pub struct Message<'a> {
     packets: Packets<'a>,
 }
 
-// A walk over the packets of a message: the bits that are left, the bit of the message at which they start, and the number that a
-// trip notice has in it.
+// A walk over the packets of a message: the bits that are left, the bit of the message at which they start, and the
+// number that a trip notice has in it.
 #[derive(Clone, Copy)]
 pub struct Packets<'a> {
     at: usize,

@@ -63,7 +63,8 @@ impl<'a> Packets<'a> {
         Ok(body(kind, start, &packet))
     }
 
-    // All packets that are left are right, or the first that is wrong is refused.
+    // All packets that are left are right, or the first that is wrong is refused. What a call refuses ends it, so this is a
+    // loop with `?`: the walk itself yields packets alone.
     pub(super) fn check(mut self) -> Result<(), Fault>
         ensures { result_err result ≡ (walked (trip_of self.entry.trip) self.entry.at (left self.entry)).stop }
     {

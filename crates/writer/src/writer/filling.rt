@@ -5,10 +5,9 @@ ghost use Rattle.bits.specs.Pieces.{bits};
 ghost use Rattle.writer.specs.Writers.{Room, Adds};
 
 use super::Writer;
+use bits::LAST;
 use bits::bits::Bits;
 use wire::message::HEAD;
-
-const LAST: usize = 7;
 
 impl<'a> Writer<'a> {
     // One bit more.
