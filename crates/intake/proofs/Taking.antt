@@ -5,6 +5,7 @@ use Rattle.std.proofs.lemmas.List.{take_all, take_more, take_at, length_push}
 use Rattle.few.specs.declared.Full.{Full}
 use Rattle.few.specs.Few.{held}
 use Rattle.script.specs.Grammar.{reading}
+use Rattle.script.proofs.Reading.{take_front}
 use Rattle.intake.specs.Lines.{AsTheyRead, keep, told, left, last_told, ended, unended}
 
 -- a push is refused where 513 are held, so it leaves the first 513 of those that came
@@ -49,11 +50,6 @@ pub left_more : (held now xs : List ℕ) (i : ℕ) → i < length xs → now ≡
 left_more held now xs i h e = rw e (ap (left held) (take_more xs i 0 h) ∙ left_push held (take i xs) (get_or xs i 0))
 
 -- the front of a line that is kept reads as the line
-take_front : (k : ℕ) (ys zs : List ℕ) → take k (take k ys ++ zs) ≡ take k (ys ++ zs)
-take_front zero ys zs = refl
-take_front (suc k) [] zs = refl
-take_front (suc k) (y ∷ ys) zs = ap (λ xs. y ∷ xs) (take_front k ys zs)
-
 reads_kept : (line : List ℕ) → reading (take 513 line) ≡ reading line
 reads_kept line = step (leb (length line) 512) refl
   where

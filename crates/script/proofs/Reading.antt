@@ -66,6 +66,7 @@ digits_tried R k text e xs (Some x) p q u r Stop n y c m =
     ap (λ d. take (length xs) text ++ (d ∷ rest)) turn.1 ∙ sym (at_drop_more (λ ys. take (length xs) text ++ ys) text (length xs) x.now turn.0) ∙ take-append-drop (length xs) text in
     (n x m).1 ∙ sym stop ∙ sym (digits_on R k xs p q (x.now ∷ rest) c) ∙ ap (λ ys. add_digits p.1 (ys ++ (x.now ∷ rest))) front ∙ ap (add_digits p.1) whole
 
+-- a number has a digit
 pub number_some : (xs : List ℕ) → false ≡ eqb (length xs) 0 → number xs ≡ add_digits 0 xs
 number_some [] h = let z : ◌≡◌ {A = ℕ} 0 1 = cc in absurd (omega arith)
 number_some (c ∷ cs) h = refl
@@ -114,7 +115,8 @@ module _ (held : List ℕ) (ps : List (List ℕ)) (i o : ℕ) (h : i < length ps
       over None = refl
       over (Some os) = let k = length-append held (o ∷ os) in grind (arith, nat_tests)
 
-take_front : (k : ℕ) (ys zs : List ℕ) → take k (take k ys ++ zs) ≡ take k (ys ++ zs)
+-- what is cut off twice is cut off once
+pub take_front : (k : ℕ) (ys zs : List ℕ) → take k (take k ys ++ zs) ≡ take k (ys ++ zs)
 take_front zero ys zs = refl
 take_front (suc k) [] zs = refl
 take_front (suc k) (y ∷ ys) zs = ap (λ xs. y ∷ xs) (take_front k ys zs)
