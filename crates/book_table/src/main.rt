@@ -355,7 +355,7 @@ fn print_limits_header(rt: &HostRuntime) -> io::Result<()> {
     println!(rt; "limits of        2    3    4    5    6    7")
 }
 
-// Which numbers are no order that can be withheld.
+// Which numbers are no order that can be withheld, in the words of this table.
 fn print_refusals(rt: &HostRuntime) -> io::Result<()> {
     println!(rt)?;
     for number in 0..10u8 {

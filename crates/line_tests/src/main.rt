@@ -70,6 +70,7 @@ fn look<T: Copy + fmt::Display>(rt: &HostRuntime, line: &Line<T>) -> io::Result<
     )
 }
 
+// A line is no iterator, since looking at it takes nothing off: it is emptied by taking.
 fn take_all<T: Copy + fmt::Display>(rt: &HostRuntime, line: &mut Line<T>) -> io::Result<()> {
     while let Some(x) = line.take() {
         println!(rt; "take: {x}")?;

@@ -15,6 +15,7 @@ use wire::packet::Packet;
 
 mod sequences;
 
+// The packet number of the trip notice here: each program sets its own.
 const TRIP: u8 = 200;
 
 // What a packet says.
@@ -41,12 +42,14 @@ fn show_all(rt: &HostRuntime, packets: Packets) -> io::Result<()> {
     Ok(())
 }
 
-// What is refused, and where.
+// What is refused, and where, in this program's own words: a fault prints itself without them.
 fn show_fault(rt: &HostRuntime, fault: &Fault) -> io::Result<()> {
-    let number = fault.number();
-    let place = fault.place;
-    let layer = fault.layer;
-    println!(rt; " refused {number} at {place}, {layer}")
+    println!(rt;
+        " refused {} at {}, {}",
+        fault.number(),
+        fault.place,
+        fault.layer
+    )
 }
 
 // The message is written again: whether the same octets come back.

@@ -13,7 +13,7 @@ use vocabulary::settings::Settings;
 use vocabulary::versions::Versions;
 use wire::message::Message;
 
-// The packet number of the trip notice.
+// The packet number of the trip notice here: each program sets its own.
 const TRIP: u8 = 200;
 
 // Majors 3 and 4, minors 0. A constant of this type has no contract, and proofs have no name for its ghost field.

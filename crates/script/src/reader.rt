@@ -79,7 +79,7 @@ fn power_off(mut parts: Parts) -> Option<Event>
     parts.next().is_none().then_some(Event::PowerOff)
 }
 
-// The call that a letter chooses, with the parts behind it.
+// The call that a letter chooses, with the parts behind it. The `match` is the table of the calls, as plain as any.
 fn call(letter: u8, parts: Parts) -> Option<Event>
     ensures { option_map said result ≡ call_of letter (to_come parts.entry) }
 {

@@ -32,7 +32,7 @@ impl Settings {
     ghost use Rattle.vocabulary.specs.Rules.{minor_of};
     ghost use Rattle.vocabulary.specs.Settings.{agreed, answered, settings_of};
 
-    // Settings of these parts, or a refusal with the place of the first wrong one.
+    // Settings of these parts, or a refusal with the place of the first wrong one. The numbers are plain: this is what checks them.
     pub fn new(numbers: &[u16], versions: Versions, trip: u8) -> Result<Settings, Fault>
         ensures { answered result ≡ settings_of numbers.now versions trip }
     {

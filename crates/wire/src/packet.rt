@@ -17,7 +17,7 @@ pub const MODE: usize = 4;
 
 pub const STATE: usize = 4;
 
-// A packet. Values are the numbers that stand on the wire, whatever they mean.
+// A packet. Values are the numbers that stand on the wire, whatever they mean: one that names no state is a packet all the same.
 #[derive(Clone, Copy)]
 pub enum Packet<'a> {
     // STM-1: the version of the interface that the sender speaks.

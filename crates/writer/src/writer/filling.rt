@@ -37,7 +37,7 @@ impl<'a> Writer<'a> {
         }
     }
 
-    // Bits as they are.
+    // Bits as they are. Here and above are two sources of bits, with a loop of one line for each.
     pub(super) fn copy(&mut self, unread: &Bits)
         requires { Room self.old (length (bits unread.now)) }
         ensures { Adds self.old (bits unread.now) self.new }
