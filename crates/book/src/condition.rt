@@ -51,16 +51,12 @@ impl Condition {
             Condition::LevelLeftForAnother => Order::ToColdStandbyConditionally,
         }
     }
-}
 
-// A condition prints its name, for people.
-impl fmt::Display for Condition {
-    ghost output = { λ condition. Some (condition_name condition) };
-
-    ghost styled_output = { λ condition spec. Some (padded spec (condition_name condition)) };
-
-    fn fmt<W: fmt::Write>(&self, f: &mut fmt::Formatter<W>) -> fmt::Result {
-        f.pad(match self {
+    // The condition's name, for people.
+    pub fn name(self) -> &'static str
+        ensures { result.now ≡ condition_name self }
+    {
+        match self {
             Condition::ConfigurationRequested => "A2 CO requested",
             Condition::DataEntryRequested => "A3 DE requested",
             Condition::ColdStandbyRequested => "A4a CS requested",
@@ -70,6 +66,17 @@ impl fmt::Display for Condition {
             Condition::Tripped => "L4a tripped",
             Condition::LevelLeftForEtcs => "level left for ETCS",
             Condition::LevelLeftForAnother => "level left for another",
-        })
+        }
+    }
+}
+
+// A condition prints its name.
+impl fmt::Display for Condition {
+    ghost output = { λ condition. Some (condition_name condition) };
+
+    ghost styled_output = { λ condition spec. Some (padded spec (condition_name condition)) };
+
+    fn fmt<W: fmt::Write>(&self, f: &mut fmt::Formatter<W>) -> fmt::Result {
+        f.pad(self.name())
     }
 }

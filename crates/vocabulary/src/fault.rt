@@ -16,18 +16,27 @@ pub enum Layer {
     Log,
 }
 
-// The layer's name, for people.
-impl fmt::Display for Layer {
-    ghost output = { λ l. Some (layer_name l) };
-
-    fn fmt<W: fmt::Write>(&self, f: &mut fmt::Formatter<W>) -> fmt::Result {
-        f.write_str(match self {
+impl Layer {
+    // The layer's name, for people.
+    pub fn name(self) -> &'static str
+        ensures { result.now ≡ layer_name self }
+    {
+        match self {
             Layer::Control => "control",
             Layer::Message => "message",
             Layer::Packet => "packet",
             Layer::Carrier => "carrier",
             Layer::Log => "log",
-        })
+        }
+    }
+}
+
+// A layer prints its name.
+impl fmt::Display for Layer {
+    ghost output = { λ l. Some (layer_name l) };
+
+    fn fmt<W: fmt::Write>(&self, f: &mut fmt::Formatter<W>) -> fmt::Result {
+        f.write_str(self.name())
     }
 }
 
