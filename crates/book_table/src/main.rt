@@ -201,7 +201,7 @@ fn print_facts(rt: &HostRuntime, view: View) -> io::Result<()> {
     let announced = shown(in_standby, mark(view.announced));
     let hs = shown(in_cs, mark(view.other_at_hs));
     let da = shown(in_standby, mark(view.other_at_da));
-    print!(rt; "{held}   {want:<4} {data:<4} {level:<7} {mode:<8} {announced:<4} {hs:<2} {da:<2} ")
+    print!(rt; "{held:<4} {want:<4} {data:<4} {level:<7} {mode:<8} {announced:<4} {hs:<2} {da:<2} ")
 }
 
 // A book's answer where no order is open, then the open orders over which it is answered too.

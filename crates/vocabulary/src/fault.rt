@@ -1,5 +1,6 @@
 // What is handed back when something is refused.
 ghost use Rattle.std.specs.Prelude.{◌≡◌, Some};
+ghost use Rattle.std.specs.Fmt.{padded};
 ghost use Rattle.vocabulary.specs.Numbers.{Numbered};
 ghost use Rattle.vocabulary.specs.Refusals.{refusal_number, refusals, layer_name, fault_at, fault_number, fault_text};
 
@@ -35,8 +36,10 @@ impl Layer {
 impl fmt::Display for Layer {
     ghost output = { λ l. Some (layer_name l) };
 
+    ghost styled_output = { λ l spec. Some (padded spec (layer_name l)) };
+
     fn fmt<W: fmt::Write>(&self, f: &mut fmt::Formatter<W>) -> fmt::Result {
-        f.write_str(self.name())
+        f.pad(self.name())
     }
 }
 

@@ -1,5 +1,6 @@
 // The states of an STM.
 ghost use Rattle.std.specs.Prelude.{◌≡◌, Some};
+ghost use Rattle.std.specs.Fmt.{padded};
 ghost use Rattle.vocabulary.specs.Numbers.{Numbered};
 ghost use Rattle.vocabulary.specs.States.{state_name, state_number, states};
 
@@ -53,8 +54,10 @@ impl TryFrom<u8> for State {
 impl fmt::Display for State {
     ghost output = { λ s. Some (state_name s) };
 
+    ghost styled_output = { λ s spec. Some (padded spec (state_name s)) };
+
     fn fmt<W: fmt::Write>(&self, f: &mut fmt::Formatter<W>) -> fmt::Result {
-        f.write_str(match self {
+        f.pad(match self {
             State::NoPower => "NP",
             State::PowerOn => "PO",
             State::Configuration => "CO",
