@@ -1,5 +1,5 @@
 -- A text taken in octet by octet.
-use Rattle.std.proofs.Common.{Result, Ok, Err, is_ok, ltb, ltb-true, ltb-false, ◌≤◌, ◌≡◌, ℕ, zero, suc, ◌<◌, Bool, true, false, cond, eqb, leb, List, [], ◌∷◌, ◌++◌, map, length, get_or, take, ◌+◌, Some, None, sym, refl, ap, ◌∙◌, arith, length-take, ne_eqb, leb-false, leb-true}
+use Rattle.std.proofs.Common.{Result, Ok, Err, is_ok, ltb, ltb-true, ltb-false, ◌≤◌, ◌≡◌, ℕ, ◌<◌, Bool, true, false, cond, eqb, leb, List, [], ◌∷◌, ◌++◌, map, length, get_or, take, ◌+◌, Some, None, sym, refl, ap, ◌∙◌, arith, length-take, ne_eqb, leb-false, leb-true}
 use borrow.Author.Tests.{lt-leb}
 use Rattle.std.proofs.lemmas.List.{take_all, take_more, take_at, length_push}
 use Rattle.few.specs.declared.Full.{Full}
