@@ -26,7 +26,7 @@ pub fn read_number(text: &[u8]) -> Option<u16>
     text.iter().try_fold(0, |value, c| add_digit(value, *c))
 }
 
-// The value of a hexadecimal digit, in capitals.
+// The value of a hexadecimal digit, in capitals; `to_digit` would take small letters too.
 fn hex_value(c: u8) -> Option<u8>
     ensures { result ≡ hex_value c }
 {
