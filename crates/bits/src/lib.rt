@@ -32,12 +32,8 @@ fn behind(i: usize) -> usize
 pub fn bit(octets: &[u8], i: usize) -> u8
     ensures { result ≡ slice_index (bits_of octets.now) i }
 {
-    let octet = octet_of(i);
-    if octet < octets.len() {
-        (octets[octet] >> behind(i)) % 2
-    } else {
-        0
-    }
+    let octet = octets.get(octet_of(i)).copied().unwrap_or(0);
+    (octet >> behind(i)) % 2
 }
 
 // How many octets n bits reach into, from the bit i of the first on.

@@ -52,7 +52,7 @@ impl Condition {
         }
     }
 
-    // The condition's name, for people.
+    // The condition's name, for people: the text itself, which printing does not hand out.
     pub fn name(self) -> &'static str
         ensures { result.now ≡ condition_name self }
     {

@@ -79,10 +79,7 @@ fn level_left(view: View) -> Option<Condition>
 fn rule_in_po(view: View) -> Option<Condition>
     ensures { result ≡ rule_in_po view.want }
 {
-    match view.want {
-        Some(Want::Configuration) => Some(Condition::ConfigurationRequested),
-        _ => None,
-    }
+    (view.want == Some(Want::Configuration)).then_some(Condition::ConfigurationRequested)
 }
 
 // The rules in CO: what the STM asked for, to DE only with valid train data.
@@ -100,10 +97,7 @@ fn rule_in_co(view: View) -> Option<Condition>
 fn rule_in_de(view: View) -> Option<Condition>
     ensures { result ≡ rule_in_de view.want }
 {
-    match view.want {
-        Some(Want::ColdStandby) => Some(Condition::ColdStandbyRequested),
-        _ => None,
-    }
+    (view.want == Some(Want::ColdStandby)).then_some(Condition::ColdStandbyRequested)
 }
 
 // The rules in CS.

@@ -26,11 +26,14 @@ pub(crate) fn usual_limit(order: Order) -> u8
 pub(crate) fn is_free(before: Option<Order>, order: Order) -> bool
     ensures { result ≡ free before order }
 {
-    match (before, order) {
-        (None, _) => true,
-        (Some(Order::ToDataEntry), Order::ToColdStandby) => true,
-        (Some(Order::ToHotStandby), Order::ToDataAvailable) => true,
-        (Some(Order::ToColdStandbyConditionally), Order::ToColdStandby) => true,
-        _ => false,
-    }
+    matches!(
+        (before, order),
+        (None, _)
+            | (Some(Order::ToDataEntry), Order::ToColdStandby)
+            | (Some(Order::ToHotStandby), Order::ToDataAvailable)
+            | (
+                Some(Order::ToColdStandbyConditionally),
+                Order::ToColdStandby
+            )
+    )
 }

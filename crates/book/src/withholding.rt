@@ -23,8 +23,8 @@ pub struct NotWrapped<B> {
 }
 
 impl<B> Withholding<B> {
-    // This book without the order that has this number: a number, since one that no order has is refused by 9. Either answer takes the inner book, which no pair
-    // of closures could share.
+    // This book without the order that has this number: a number, since one that no order has is refused by 9.
+    // Either answer takes the inner book, which no pair of closures could share.
     pub fn new(inner: B, number: u8) -> Result<Withholding<B>, NotWrapped<B>>
         ensures { result ≡ wrapped inner number }
     {

@@ -7,7 +7,7 @@ use book::bare::Bare;
 use book::standard::Standard;
 use book::view::{LevelSeen, View, Want};
 use book::withholding::Withholding;
-use std::{fmt, io};
+use std::{fmt, io, iter};
 use vocabulary::mode::Mode;
 use vocabulary::order::Order;
 use vocabulary::state::State;
@@ -37,16 +37,6 @@ const ORDERS: [Order; 6] = [
     Order::ToColdStandbyConditionally,
     Order::ToHotStandby,
     Order::ToDataAvailable,
-];
-
-const OPEN_ORDERS: [Option<Order>; 7] = [
-    None,
-    Some(Order::ToConfiguration),
-    Some(Order::ToDataEntry),
-    Some(Order::ToColdStandby),
-    Some(Order::ToColdStandbyConditionally),
-    Some(Order::ToHotStandby),
-    Some(Order::ToDataAvailable),
 ];
 
 const LEVELS: [LevelSeen; 3] = [LevelSeen::Own, LevelSeen::Anothers, LevelSeen::NotNtc];
@@ -291,7 +281,7 @@ impl Counts {
     // Goes through every view in this held state.
     fn see_state(&mut self, rt: &HostRuntime, books: &[&dyn Book], held: State) -> io::Result<()> {
         for want in WANTS {
-            for open in OPEN_ORDERS {
+            for open in iter::once(None).chain(ORDERS.into_iter().map(Some)) {
                 for train_data in FACTS {
                     let view = View {
                         want,

@@ -49,6 +49,7 @@ impl Carrier for Bus<'_> {
 
     ghost free = { bus_free };
 
+    // With clauses of its own an implementation repeats the trait's.
     #[tactic(auto, using(crate::proofs::Framed::by_octets_each))]
     fn put(&mut self, frame: &[u8]) -> Result<(), Fault>
         ensures answer { result ≡ put_answer frame.now (bus_free self.old) }

@@ -9,7 +9,8 @@ use std::alloc::AllocError;
 #[derive(Clone, Copy, PartialEq, Eq, Debug)]
 pub struct Full;
 
-// At most N values, in their order. What the places behind them hold means nothing.
+// At most N values, in their order. What the places behind them hold means nothing. No library here allocates, so this is an
+// array and how much of it counts.
 pub struct Few<T, const N: usize> {
     items: [T; N],
     len: usize,
@@ -17,7 +18,7 @@ pub struct Few<T, const N: usize> {
     ghost within: { len ≤ N },
 }
 
-// No derive copies a generic struct with ghost fields, so the copy is written here.
+// No derive copies a struct that is generic in a type and has ghost fields, so the copy is written here.
 impl<T: Copy, const N: usize> Clone for Few<T, N> {
     ghost is_clone = { λ few copy. copy ≡ few };
 

@@ -8,7 +8,9 @@ ghost use Rattle.std.specs.List.{slice_get};
 // No place was free.
 pub use few::Full;
 
-// The first element lies in slot `first` and the others behind it, round the end; there are `used` of them.
+// The first element lies in slot `first` and the others behind it, round the end; there are `used` of them. The slots are lent,
+// as no library here allocates, so both numbers stand beside them. Each function says that the loan stays: the language asks it
+// of a struct that holds a `&mut`, here and in all that hold one.
 #[derive(Drop)]
 pub struct Line<'a, T> {
     slots: &'a mut [T],
@@ -62,6 +64,7 @@ impl<'a, T: Copy> Line<'a, T> {
     pub fn get(&self, place: usize) -> Option<T>
         ensures { result ≡ slice_get (waits self.now) place }
     {
+        // `then` was tried: its closure needs a clause of its own for the slot.
         if place < self.used {
             Some(self.slots[self.slot(place)])
         } else {

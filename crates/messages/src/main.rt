@@ -85,7 +85,8 @@ fn split_message(stream: &[u8]) -> Option<(&[u8], &[u8])>
     stream.split_at_checked(len)
 }
 
-// The messages of a stream, one after the other.
+// The messages of a stream, one after the other. It may end in what is no message, which is told: so this is no iterator.
+// Each is copied into a receive buffer, as a unit has one.
 fn play_all(rt: &HostRuntime, stream: &[u8], trip: TripNumber) -> io::Result<()> {
     let mut rest = stream;
     while rest.len() >= HEAD {

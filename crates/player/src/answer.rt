@@ -5,7 +5,7 @@ ghost use Rattle.player.specs.Answers.{shown_as};
 use std::fmt;
 use vocabulary::fault::Refusal;
 
-// Granted with no orders; refused; or not a line that can be answered.
+// Granted with no orders; refused; or not a line that can be answered. Three cases that print themselves, and so no `Result`.
 #[derive(Clone, Copy, PartialEq, Eq, Debug)]
 pub enum Answer {
     Granted,

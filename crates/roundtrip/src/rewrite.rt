@@ -18,6 +18,7 @@ pub fn rewrite_message(octets: &mut [u8], message: &[u8], trip: TripNumber) -> R
 {
     let read = Message::read(message, trip)?;
     let mut writer = Writer::new(octets, read.sender(), trip);
+    // The loop of `write_message`, over a walk: what the two go over say it in different words.
     for packet in read.packets() {
         writer.add(&packet)?;
     }

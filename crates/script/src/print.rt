@@ -36,6 +36,7 @@ impl fmt::Display for Event {
                 mode,
             } => write!(f, "s {level} {number} {mode}"),
             Event::Announce(number) => write!(f, "a {number}"),
+            // One arm that prints `u8::from(*valid)` was tried: its proof did not close.
             Event::TrainData(true) => write!(f, "v 1"),
             Event::TrainData(false) => write!(f, "v 0"),
             Event::Run(ticks) => write!(f, "t {ticks}"),

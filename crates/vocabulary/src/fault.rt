@@ -18,7 +18,7 @@ pub enum Layer {
 }
 
 impl Layer {
-    // The layer's name, for people.
+    // The layer's name, for people: the text itself, which printing does not hand out.
     pub fn name(self) -> &'static str
         ensures { result.now ≡ layer_name self }
     {

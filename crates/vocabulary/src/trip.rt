@@ -1,5 +1,5 @@
 // The packet number of the trip notice, the National Trip Procedure.
-ghost use Rattle.std.specs.Prelude.{◌≡◌, false, if◌then◌else◌, Some, None};
+ghost use Rattle.std.specs.Prelude.{◌≡◌, ◌<◌, false, if◌then◌else◌, Some, None};
 ghost use Rattle.std.specs.Option.{option_map};
 ghost use Rattle.std.specs.Result.{result_ok};
 ghost use Rattle.vocabulary.specs.Trips.{taken};
@@ -9,13 +9,14 @@ ghost use Rattle.vocabulary.specs.Trips.{taken};
 pub struct TripNumber {
     number: u8,
     ghost free: { taken number ≡ false },
+    ghost octet: { number < 256 },
 }
 
 // A packet number that another known packet has.
 #[derive(Clone, Copy, PartialEq, Eq, Debug)]
 pub struct Taken;
 
-// This number, unless it is taken.
+// This number, unless it is taken. `wire::kind::Kind` has these numbers too; it stands above this crate.
 impl TryFrom<u8> for TripNumber {
     ghost use Rattle.vocabulary.specs.Settings.{trip_of};
 

@@ -1,5 +1,5 @@
 -- Packets: what they say, and what the reader makes of bits.
-use Rattle.std.specs.Prelude.{ℕ, Bool, true, cond, not, ◌&&◌, List, length, take, is_some, Some, None, Ok, Err, Option, Result, ◌==◌, nat_le, nat_lt}
+use Rattle.std.specs.Prelude.{◌≡◌, ℕ, Bool, true, cond, not, ◌&&◌, List, length, take, is_some, Some, None, Ok, Err, Option, Result, ◌==◌, nat_le, nat_lt}
 use Rattle.vocabulary.specs.Numbers.{case_of}
 use Rattle.vocabulary.specs.Refusals.{fault_at}
 use Rattle.vocabulary.specs.declared.fault.Fault.{Fault}
@@ -32,6 +32,11 @@ content (packet.Order state) = order state
 content (packet.Report state) = report state
 content packet.TripNotice = notice
 content (packet.Other start b) = other (bits b)
+
+-- An unread packet tells the bit of its message at which it starts.
+abbrev pub StartsAt : ℕ → Packet → Type 0
+StartsAt at (packet.Other start b) = start ≡ at
+StartsAt at p = Unit {0}
 
 -- A packet begins with its number (8 bits) and its length (13 bits), which counts all of its bits.
 abbrev pub number_in : List ℕ → ℕ

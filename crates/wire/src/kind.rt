@@ -3,6 +3,8 @@ ghost use Rattle.std.specs.Prelude.{◌≡◌};
 ghost use Rattle.vocabulary.specs.Numbers.{case_of};
 ghost use Rattle.wire.specs.Kinds.{kind_number, kind_length, kinds};
 
+use crate::packet::{HEADER, LEVEL, MODE, STATE, VERSION};
+
 // Which packet it is, of those that are known here.
 #[derive(Clone, Copy, PartialEq, Eq, Debug)]
 pub enum Kind {
@@ -20,7 +22,8 @@ pub enum Kind {
     TripNotice,
 }
 
-// A trip notice's number is a setting, so neither way is a `From` or a `TryFrom`.
+// A trip notice's number is a setting, so neither way is a `From` or a `TryFrom`. The setting is an octet here, not the type of
+// trip numbers: every octet has an answer.
 impl Kind {
     // The packet's number, where a trip notice has the number `trip`.
     pub fn number(self, trip: u8) -> u8
@@ -41,10 +44,10 @@ impl Kind {
         ensures { result ≡ kind_length self }
     {
         match self {
-            Kind::Version => 37,
-            Kind::Status => 28,
-            Kind::Request | Kind::Order | Kind::Report => 25,
-            Kind::TripNotice => 21,
+            Kind::Version => HEADER + 2 * VERSION,
+            Kind::Status => HEADER + LEVEL + MODE,
+            Kind::Request | Kind::Order | Kind::Report => HEADER + STATE,
+            Kind::TripNotice => HEADER,
         }
     }
 

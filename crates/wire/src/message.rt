@@ -1,6 +1,8 @@
 // Messages.
-ghost use Rattle.std.specs.Prelude.{◌+◌, ◌≤◌, length};
+ghost use Rattle.std.specs.Prelude.{◌≡◌, ◌+◌, ◌≤◌, length, None};
+ghost use Rattle.vocabulary.specs.Settings.{trip_of};
 ghost use Rattle.bits.specs.Pieces.{bits};
+ghost use Rattle.wire.specs.Messages.{walked};
 
 use bits::bits::Bits;
 use vocabulary::trip::TripNumber;
@@ -25,6 +27,7 @@ pub const COUNT: usize = 1;
 pub struct Message<'a> {
     sender: u8,
     packets: Packets<'a>,
+    ghost right: { (walked (trip_of packets.trip) packets.at (bits packets.left)).stop ≡ None },
 }
 
 // A walk over the packets of a message: the bits that are left, the bit of the message at which they start, and the

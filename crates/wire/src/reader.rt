@@ -2,7 +2,7 @@
 ghost use Rattle.std.specs.Prelude.{◌≡◌, ◌+◌, ◌<◌, ◌≤◌, true, length, MatchOption};
 ghost use Rattle.bits.specs.Bits.{value_at};
 ghost use Rattle.bits.specs.Pieces.{bits};
-ghost use Rattle.wire.specs.Packets.{may_have, content, content_in};
+ghost use Rattle.wire.specs.Packets.{may_have, content, content_in, StartsAt};
 ghost use Rattle.wire.specs.Readers.{Headed};
 
 use crate::kind::Kind;
@@ -36,7 +36,8 @@ fn field(packet: &Bits, from: usize, n: usize) -> u8
 // What a packet says that starts at that bit of its message, once its number and its length are found right.
 pub(crate) fn body<'a>(kind: Option<Kind>, start: usize, packet: &Bits<'a>) -> Packet<'a>
     requires { (21 ≤ length (bits packet.now)) × (may_have kind (length (bits packet.now)) ≡ true) }
-    ensures { content result ≡ content_in kind (length (bits packet.now)) (bits packet.now) }
+    ensures content { content result ≡ content_in kind (length (bits packet.now)) (bits packet.now) }
+    ensures start { StartsAt start result }
 {
     match kind {
         Some(Kind::Version) => Packet::Version {

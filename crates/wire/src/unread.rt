@@ -13,6 +13,7 @@ use vocabulary::trip::TripNumber;
 pub fn is_unread(packet: &Bits, trip: TripNumber) -> bool
     ensures { result ≡ handed_on (trip_of trip) (bits packet.now) }
 {
+    // `is_some_and` was tried: its proof did not close.
     match header(packet) {
         Some((number, length)) => {
             length == packet.len() && Kind::from_number(number, u8::from(trip)).is_none()

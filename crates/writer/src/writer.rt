@@ -9,7 +9,7 @@ pub mod ops;
 mod packets;
 
 // The whole octets of the packets stand in the buffer from its third octet on, `full` of them, and the first `count`
-// bits of the next octet wait. The octets are written into a lent buffer, so their number stands beside it.
+// bits of the next octet wait, as the number `waiting`. The octets are written into a lent buffer, so their number stands beside it.
 #[derive(Drop)]
 pub struct Writer<'a> {
     octets: &'a mut [u8],

@@ -32,7 +32,8 @@ fn check_length(octets: &[u8]) -> Result<(), Fault>
 }
 
 impl<'a> Message<'a> {
-    // Octets as a message, in which a trip notice has the number `trip`. All packets are checked.
+    // Octets as a message, in which a trip notice has the number `trip`. All packets are checked. Octets and trip number are no
+    // struct, here and where messages are written: the octets come and go, and the number is a setting.
     pub fn read(octets: &'a [u8], trip: TripNumber) -> Result<Message<'a>, Fault>
         ensures { heard result ≡ read_message (trip_of trip) octets.now }
     {

@@ -1,10 +1,10 @@
 // Walking over the packets of a message.
-ghost use Rattle.std.specs.Prelude.{◌≡◌, ◌≤◌, length, nat_lt, MatchResult};
+ghost use Rattle.std.specs.Prelude.{◌≡◌, ◌≤◌, length, nat_lt, IfOk, MatchResult};
 ghost use Rattle.std.specs.Iterator.{YieldsFirstBy, item_count};
 ghost use Rattle.std.specs.Result.{result_err};
 ghost use Rattle.vocabulary.specs.Settings.{trip_of};
 ghost use Rattle.wire.specs.Messages.{walked, body_bits};
-ghost use Rattle.wire.specs.Packets.{content, read_packet, told};
+ghost use Rattle.wire.specs.Packets.{content, read_packet, told, StartsAt};
 ghost use Rattle.wire.specs.Readers.{left, Past};
 ghost use Rattle.wire.specs.Walkers.{ahead};
 
@@ -44,6 +44,7 @@ impl<'a> Packets<'a> {
     // The next packet, or why there is none.
     fn packet(&mut self) -> Result<Packet<'a>, Fault>
         ensures answer { told result ≡ read_packet (trip_of self.old.trip) self.old.at (left self.old) }
+        ensures start { IfOk result (StartsAt self.old.at) }
         ensures past { MatchResult result (λ _. Past self.old self.new) (λ _. self.new ≡ self.old) }
     {
         let cut = Fault::new(Refusal::PacketCut, self.at, Layer::Packet);

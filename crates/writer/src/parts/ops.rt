@@ -9,10 +9,10 @@ use wire::kind::Kind;
 use wire::packet::{HEADER, LEVEL, MODE, Packet, STATE, VERSION};
 use wire::unread::is_unread;
 
-// A packet without values has none.
+// A field of no bits: it adds nothing, so packets with fewer than two values need no case of their own.
 const NONE: Field = Field { value: 0, width: 0 };
 
-// A value in so many bits.
+// A value in so many bits. The function states the fields for the proofs of its callers, which a literal does not.
 fn field(value: u8, width: usize) -> Field
     requires { width ≤ 8 }
     ensures value { result.value ≡ value }

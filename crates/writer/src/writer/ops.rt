@@ -41,7 +41,6 @@ impl<'a> Writer<'a> {
     pub fn new(octets: &'a mut [u8], sender: u8, trip: TripNumber) -> Writer<'a>
         ensures draft { draft result ≡ started sender (trip_of trip) octets.old }
         ensures lender { result.octets.ghost_name ≡ octets.entry.ghost_name }
-        ensures octet { trip_of trip < 256 }
     {
         Writer {
             octets,

@@ -35,9 +35,9 @@ returns-in_err-add c =
     record {
       answer = answer;
       buffer = buffer;
-      law = write_law (trip_of c.args.trip) c.new-writer.ensures.octet c.args.trip.free c.args.sender c.args.packets.now c.args.octets.now _ _ answer buffer;
+      law = write_law (trip_of c.args.trip) c.args.trip.octet c.args.trip.free c.args.sender c.args.packets.now c.args.octets.now _ _ answer buffer;
     }
 
 pub returns-clause-law : goal.returns-clause-law
 returns-clause-law c =
-    write_law (trip_of c.args.trip) c.new-writer.ensures.octet c.args.trip.free c.args.sender c.args.packets.now c.args.octets.now _ _ (grind (arith, common_steps)) (grind (arith, common_steps))
+    write_law (trip_of c.args.trip) c.args.trip.octet c.args.trip.free c.args.sender c.args.packets.now c.args.octets.now _ _ (grind (arith, common_steps)) (grind (arith, common_steps))

@@ -8,4 +8,4 @@ returns-clause-answer c =
     let w = c.args.self.now in
     let parts = rw c.in_ok-packet.ensures.ok_part at c.split_at.ensures in
     whole_answer (trip_of w.trip) w.at (left w) _ _ _ _ _ c.body.result (rw c.in_ok-number.ensures.ok_part at c.header.ensures) c.if-length-lt-HEADER.false parts.enough parts.front
-    c.from.ensures c.from_number-kind.ensures c.if-not-may_have.ensures c.body.ensures
+    c.from.ensures c.from_number-kind.ensures c.if-not-may_have.ensures c.body.ensures.content
