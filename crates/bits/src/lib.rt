@@ -49,10 +49,6 @@ fn reach(i: usize, n: usize) -> usize
 pub(crate) fn window(octets: &[u8], i: usize, n: usize) -> Option<&[u8]>
     ensures { option_map (λ x. x.now) result ≡ window_at octets.now i n }
 {
-    let first = octet_of(i);
-    if first <= octets.len() && reach(i % OCTET, n) <= octets.len() - first {
-        Some(&octets[first..])
-    } else {
-        None
-    }
+    let held = octets.get(octet_of(i)..)?;
+    (reach(i % OCTET, n) <= held.len()).then_some(held)
 }

@@ -98,6 +98,7 @@ impl<'a> Bits<'a> {
     {
         let (_, rest) = self.split_at(from)?;
         let (bits, _) = rest.split_at(n)?;
+        // `then` was tried: its proof did not close.
         if n <= WIDEST {
             Some(bits.value())
         } else {
