@@ -1,12 +1,12 @@
 -- What a writer's calls leave, octet by octet.
-use Rattle.std.proofs.Common.{◌≡◌, ℕ, suc, ◌+◌, ◌-◌, ◌*◌, ◌/◌, ◌^◌, ◌<◌, ◌≤◌, min, true, List, [], ◌∷◌, ◌++◌, length, take, drop, set, replicate, Ok, sym, refl, ap, ◌∙◌, append_assoc, arith, length-drop, length-take-le, drop-drop}
+use Rattle.std.proofs.Common.{◌≡◌, ℕ, ◌+◌, ◌-◌, ◌*◌, ◌/◌, ◌^◌, ◌<◌, ◌≤◌, min, true, List, [], ◌∷◌, ◌++◌, length, take, drop, set, replicate, Ok, sym, refl, ap, ◌∙◌, append_assoc, arith, length-drop, length-take-le, drop-drop}
 use Rattle.std.proofs.lemmas.List.{take-append-drop}
 use Rattle.std.proofs.lemmas.Bool.{cond-true, le-leb, and_from}
 use Rattle.vocabulary.specs.Settings.{trip_of}
 use Rattle.bits.specs.Bits.{field, bits_of}
 use Rattle.wire.specs.Packets.{Content}
 use Rattle.writer.specs.Encoding.{encode, writable}
-use Rattle.writer.specs.Drafts.{Draft, octets_in, whole, padded, placed, extended, room, has_room, add_answer, added, message_of}
+use Rattle.writer.specs.Drafts.{Draft, octets_in, whole, padded, placed, extended, room, has_room, add_answer, added}
 use Rattle.writer.specs.Writers.{written, draft, Adds, Pads}
 use Rattle.writer.specs.declared.writer.Writer.{Writer}
 use Rattle.writer.proofs.OctetLaws.{octets_all, octets_back, octets_filled}
@@ -92,27 +92,3 @@ module _ (w : Writer) (some : 0 < length (written w)) where
 
     pub filled_bits_same : bits_of (take w.full (drop 2 (set w.octets.now (2 + w.full) o))) ++ field w.count w.waiting ≡ written w
     filled_bits_same = ap (λ l. bits_of l ++ field w.count w.waiting) (before_set w.octets.now w.full o)
-
--- the first two octets are put down
-front_two : (s s₁ os : List ℕ) (a b n : ℕ) → length os ≡ n → take n (drop 2 s₁) ≡ os → drop (2 + n) s₁ ≡ drop (2 + n) s → b ≡ 2 + n → 2 ≤ length s₁ →
-    set (set s₁ 0 a) 1 b ≡ (a ∷ ((2 + length os) ∷ os)) ++ drop (length (a ∷ ((2 + length os) ∷ os))) s
-front_two s [] os a b n l e d f h = absurd (omega arith)
-front_two s (x ∷ []) os a b n l e d f h = absurd (omega arith)
-front_two s (x ∷ (y ∷ r)) os a b n l e d f h =
-    let k : 2 + n ≡ suc (suc (length os)) = omega arith in
-    let two : b ≡ 2 + length os = omega arith in
-    let rest : r ≡ os ++ drop (suc (suc (length os))) s =
-    sym (take-append-drop n r) ∙ (λ i. e i ++ drop-drop n 2 (x ∷ (y ∷ r)) i) ∙ ap (λ z. os ++ z) (d ∙ ap (λ j. drop j s) k) in
-    λ i. a ∷ (two i ∷ rest i)
-
-module _ (w : Writer) (n : ℕ) (w₁ : Writer) (q : Pads w n w₁) where
-  count_is : length (padded (written w)) ≡ n
-  count_is = sym (ap length q.octets) ∙ length-take-le n (drop 2 w₁.octets.now) (omega (arith, length-drop 2 w₁.octets.now, q.within, q.size))
-
-  pub finish_length : 2 + n ≡ length (message_of (draft w))
-  finish_length = omega (arith, count_is)
-
-  pub finish_buffer : (a b : ℕ) → a ≡ w.sender → b ≡ 2 + n → set (set w₁.octets.now 0 a) 1 b ≡ message_of (draft w) ++ drop (length (message_of (draft w))) w.octets.now
-  finish_buffer a b s e =
-      ap (λ x. set (set w₁.octets.now 0 x) 1 b) s
-      ∙ front_two w.octets.now w₁.octets.now (padded (written w)) w.sender b n count_is q.octets q.behind e (omega (arith, q.within, q.size))

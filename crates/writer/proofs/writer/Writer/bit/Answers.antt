@@ -1,6 +1,6 @@
-use Rattle.std.proofs.Common.{◌≡◌, ◌+◌, ◌*◌, ◌^◌, ◌<◌, take, drop, refl, ap, arith, length-set}
+use Rattle.std.proofs.Common.{◌≡◌, ◌+◌, ◌*◌, ◌^◌, ◌<◌, refl, ap, arith, length-set}
 use Rattle.std.proofs.lemmas.List.{take-set-le, drop-set-lt}
-use Rattle.writer.proofs.WriterLaws.{fits_push, waits, fills, with_set, length_written}
+use Rattle.writer.proofs.WriterLaws.{fits_push, fills, with_set, length_written}
 use Rattle.writer.proofs.OctetLaws.{octets_push}
 use Rattle.writer.proofs.writer.Writer.bit.Goals as goal
 
@@ -33,18 +33,4 @@ returns-then-self-eq-LAST c =
       on = omega arith;
       front = take-set-le 2 s (2 + w.full) _ (omega arith);
       behind = drop-set-lt (2 + (w.full + 1)) s (2 + w.full) _ (omega arith);
-    }
-
-pub returns-else-self-eq-LAST : goal.returns-else-self-eq-LAST
-returns-else-self-eq-LAST c =
-    let w = c.args.self.now in
-    record {
-      sender = refl;
-      trip = refl;
-      bits = waits w.waiting c.args.b c.requires.1 (take w.full (drop 2 w.octets.now)) w.count;
-      size = refl;
-      lender = refl;
-      on = omega arith;
-      front = refl;
-      behind = refl;
     }

@@ -1,18 +1,10 @@
-use Rattle.std.proofs.Common.{◌+◌, ◌≤◌, refl, ap, ◌∙◌, arith, length-set}
+use Rattle.std.proofs.Common.{◌+◌, ◌≤◌, refl, arith, length-set}
 use Rattle.std.proofs.lemmas.List.{drop-set-lt}
-use Rattle.writer.specs.Drafts.{are_octets}
-use Rattle.writer.proofs.WriterLaws.{before_set}
 use Rattle.writer.proofs.DraftLaws.{pads_none, room_for, filled_octets, filled_bits_same}
 use Rattle.writer.proofs.writer.Writer.pad.Goals as goal
 
 pub returns-then-self-eq0 : goal.returns-then-self-eq0
 returns-then-self-eq0 c = pads_none c.args.self.now c.requires (omega arith)
-
-pub invariant_of-self : goal.invariant_of-self
-invariant_of-self c =
-    let w = c.args.self.now in
-    let size = length-set w.octets.now (2 + w.full) c.filled.result in
-    record { lies = omega (arith, w.lies); few = w.few; fits = w.fits; octal = ap are_octets (before_set w.octets.now w.full c.filled.result) ∙ w.octal }
 
 pub returns : goal.returns
 returns c =
