@@ -46,7 +46,7 @@ fn reach(i: usize, n: usize) -> usize
 
 // The octets from the one on that the bit i stands in, if all of the n bits from i on lie in the octets.
 #[tactic(auto, using(crate::proofs::BitLaws::window_there))]
-pub(crate) fn window(octets: &[u8], i: usize, n: usize) -> Option<&[u8]>
+pub fn window(octets: &[u8], i: usize, n: usize) -> Option<&[u8]>
     ensures { option_map (λ x. x.now) result ≡ window_at octets.now i n }
 {
     let held = octets.get(octet_of(i)..)?;

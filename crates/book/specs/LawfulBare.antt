@@ -20,16 +20,26 @@ rule_paired : (s : State) (v : View) (o : Order) → bare_rule s v ≡ Some o �
 unfolding paired
 rule_paired s v o e = grind arith
 
-bare_over : (v : View) (before o : Order) → v.open ≡ Some before → bare_answer v ≡ Some o → follows before o ≡ true
+-- and each of HS and DA only alone
+rule_alone_hs : (s : State) (v : View) → bare_rule s v ≡ Some ToHotStandby → v.other_at_hs ≡ false
+rule_alone_hs s v e = grind arith
+
+rule_alone_da : (s : State) (v : View) → bare_rule s v ≡ Some ToDataAvailable → v.other_at_da ≡ false
+rule_alone_da s v e = grind arith
+
+pub bare_paired : (v : View) (o : Order) → bare_answer v ≡ Some o → paired v.held o ≡ true
+bare_paired v o e = rule_paired v.held v o (answered v o e).0
+
+pub bare_over : (v : View) (before o : Order) → v.open ≡ Some before → bare_answer v ≡ Some o → follows before o ≡ true
 bare_over v before o p e = let f = (answered v o e).1 in grind arith
 
-bare_alone : (v : View)
+pub bare_alone : (v : View)
     → (bare_answer v ≡ Some ToHotStandby → v.other_at_hs ≡ false) × (bare_answer v ≡ Some ToDataAvailable → v.other_at_da ≡ false)
 bare_alone v = (λ e. grind arith, λ e. grind arith)
 
 pub bare_lawful : {B : Type 0} → Laws {B = B} (λ _ v. bare_answer v) (λ _ o. usual_limit o)
 bare_lawful = record {
-  held_order = λ b v o e. rule_paired v.held v o (answered v o e).0;
+  held_order = λ b. bare_paired;
   over_open = λ b. bare_over;
   alone = λ b. bare_alone;
   limited = λ b. usual_limited;

@@ -9,7 +9,7 @@ use Rattle.book.specs.Kept.{kept_some}
 use Rattle.book.specs.Laws.{Laws}
 
 -- what is not withheld is the inner book's answer
-inner : (order : Order) (answer : Option Order) (o : Order) → without order answer ≡ Some o → answer ≡ Some o
+pub inner : (order : Order) (answer : Option Order) (o : Order) → without order answer ≡ Some o → answer ≡ Some o
 inner order answer o e = (kept_some _ answer o e).0
 
 pub withholding_lawful : {B : Type 0} (answer : B → View → Option Order) (limit : B → Order → ℕ) → Laws answer limit

@@ -10,5 +10,6 @@ pub mod Conditions
 pub mod Lawful
 pub mod Exactly
 pub mod Kept
+pub mod Tests
 pub mod LawfulBare
 pub mod LawfulWithholding

@@ -123,16 +123,18 @@ fn stand_in(view: View) -> View {
     }
 }
 
-// Whether every book answers two views alike.
-fn alike(books: &[&dyn Book], one: View, other: View) -> bool {
-    books
-        .iter()
-        .all(|book| book.consult(one) == book.consult(other))
-}
-
-// Whether some book answers this view with an order.
-fn answers(books: &[&dyn Book], view: View) -> bool {
-    books.iter().any(|book| book.consult(view).is_some())
+// Whether every book answers two views alike, and whether some book answers the first with an order.
+// Each book takes a view of its own. Not inlined, that is a plain copy; else it is put together anew.
+#[inline(never)]
+fn compare(books: &[&dyn Book], one: &View, other: &View) -> (bool, bool) {
+    let mut alike = true;
+    let mut answered = false;
+    for book in books {
+        let answer = book.consult(*one);
+        alike &= answer == book.consult(*other);
+        answered |= answer.is_some();
+    }
+    (alike, answered)
 }
 
 // The words of the columns: the table's own, not names of the types.
@@ -237,21 +239,16 @@ struct Counts {
 }
 
 impl Counts {
-    // Counts a view, and prints its line if it stands for itself, has no open order and is answered.
-    fn see(&mut self, rt: &HostRuntime, books: &[&dyn Book], view: View) -> io::Result<()> {
+    // Counts a view. Whether it has a line: it stands for itself, has no open order and is answered.
+    fn count(&mut self, books: &[&dyn Book], view: View) -> bool {
         let other = stand_in(view);
+        let (alike, answered) = compare(books, &view, &other);
+        let has_line = answered && view == other && view.open.is_none();
         self.views = self.views.saturating_add(1);
-        if !alike(books, view, other) {
-            self.unlike = self.unlike.saturating_add(1);
-        }
-        if answers(books, view) {
-            self.answered = self.answered.saturating_add(1);
-            if view == other && view.open.is_none() {
-                self.lines = self.lines.saturating_add(1);
-                print_line(rt, books, view)?;
-            }
-        }
-        Ok(())
+        self.unlike = self.unlike.saturating_add((!alike).into());
+        self.answered = self.answered.saturating_add(answered.into());
+        self.lines = self.lines.saturating_add(has_line.into());
+        has_line
     }
 
     // Goes through the levels, the modes and what is known of the other STMs, with this view's other parts.
@@ -269,7 +266,9 @@ impl Counts {
                                 other_at_da,
                                 ..view
                             };
-                            self.see(rt, books, view)?;
+                            if self.count(books, view) {
+                                print_line(rt, books, view)?;
+                            }
                         }
                     }
                 }

@@ -113,8 +113,9 @@ fn try_all(rt: &HostRuntime) -> io::Result<()> {
 }
 
 fn main(rt: HostRuntime) -> io::Result<()> {
-    try_all(&rt).or_else(|error| match error.kind() {
-        ErrorKind::OutOfMemory => eprintln!(rt; "out of memory"),
+    // Want of memory for a buffer has no code of the system; an output that has no memory has one.
+    try_all(&rt).or_else(|error| match (error.kind(), error.raw_os_error()) {
+        (ErrorKind::OutOfMemory, None) => eprintln!(rt; "out of memory"),
         _ => eprintln!(rt; "no output"),
     })
 }

@@ -1,7 +1,7 @@
 // A few values, held by value.
 #![tactic(auto)]
 
-ghost use Rattle.std.specs.Prelude.{◌≡◌, ◌≤◌, [], ◌∷◌, ◌++◌, length, ⊤, Ok, Err, is_ok, nat_lt, if◌then◌else◌, ◌==◌};
+ghost use Rattle.std.specs.Prelude.{◌≡◌, ◌≤◌, [], ◌∷◌, ◌++◌, length, ⊤, Ok, Err, is_ok, nat_lt, nat_le, if◌then◌else◌, ◌==◌};
 
 use std::alloc::AllocError;
 
@@ -82,6 +82,19 @@ impl<T: Copy, const N: usize> Few<T, N> {
         self.len == 0
     }
 
+    // These values in the place of those held. Where they are too many this is refused, and nothing changes.
+    pub fn fill(&mut self, items: &[T]) -> Result<(), Full>
+        ensures answer { result ≡ (if nat_le (length items.now) N then Ok tt else Err (record {})) }
+        ensures held { held self.new ≡ (if is_ok result then items.now else held self.old) }
+    {
+        if items.len() > N {
+            return Err(Full);
+        }
+        self.items[..items.len()].copy_from_slice(items);
+        self.len = items.len();
+        Ok(())
+    }
+
     // None any more.
     pub fn clear(&mut self)
         ensures { held self.new ≡ [] }
@@ -99,14 +112,8 @@ impl<'a, T: Copy + Default, const N: usize> TryFrom<&'a [T]> for Few<T, N> {
     ghost try_from_gives = { λ items r. Fits N items.now r };
 
     fn try_from(items: &'a [T]) -> Result<Few<T, N>, Full> {
-        if items.len() > N {
-            return Err(Full);
-        }
-        let mut held = [T::default(); N];
-        held[..items.len()].copy_from_slice(items);
-        Ok(Few {
-            items: held,
-            len: items.len(),
-        })
+        let mut few = Few::new();
+        few.fill(items)?;
+        Ok(few)
     }
 }

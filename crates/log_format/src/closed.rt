@@ -10,8 +10,8 @@ use vocabulary::octets::Frame;
 // All octets in which the log lies, and those of the log itself, from its first entry to its trailer's end.
 #[derive(Drop)]
 pub struct ClosedLog<'a> {
-    octets: &'a [u8],
-    log: &'a [u8],
+    pub octets: &'a [u8],
+    pub log: &'a [u8],
 }
 
 // A closed log that is being played: what is left of it.

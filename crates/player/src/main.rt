@@ -7,6 +7,7 @@ ghost use Rattle.line.specs.Waiting.{room, waits};
 mod answer;
 mod session;
 
+use answer::Answer;
 use intake::intake::Intake;
 use line::Line;
 use script::event::{Event, Unreadable};
@@ -29,11 +30,10 @@ struct Player<'a, W> {
 }
 
 impl<'a, W: Write> Player<'a, W> {
-    // Answers a line.
-    fn answer(&mut self, line: Result<Event, Unreadable>) -> io::Result<()>
+    // Writes an answer.
+    fn write(&mut self, answer: Answer) -> io::Result<()>
         ensures { self.new.ahead ≡ self.old.ahead }
     {
-        let answer = self.session.answer(line);
         writeln!(self.out, "{answer}")
     }
 
@@ -42,7 +42,8 @@ impl<'a, W: Write> Player<'a, W> {
         ensures { OnOk result (room self.new.ahead ≡ room self.old.ahead + length (waits self.old.ahead)) }
     {
         while let Some(line) = self.ahead.take() {
-            self.answer(line)?;
+            let answer = self.session.answer(line);
+            self.write(answer)?;
         }
         Ok(())
     }
@@ -64,7 +65,8 @@ impl<'a, W: Write> Player<'a, W> {
     // The input is over: a line that has begun and has no end is answered too.
     fn finish(&mut self) -> io::Result<()> {
         if let Some(line) = self.intake.last() {
-            self.answer(line)?;
+            let answer = self.session.answer(line);
+            self.write(answer)?;
         }
         self.out.flush()
     }

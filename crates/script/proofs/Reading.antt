@@ -12,7 +12,7 @@ use Rattle.std.proofs.lemmas.List.Splits.{slice_split_first, slice_split_none}
 use Rattle.std.proofs.Common.{◌*◌, take-append-drop, MatchOption, map, ltb-true, ltb-false, Bool, ltb, ◌≡◌, ℕ, zero, suc, ◌+◌, ◌-◌, ◌<◌, ◌≤◌, true, false, cond, eqb, List, [], ◌∷◌, ◌++◌, length, get_or, take, drop, Some, None, Option, sym, refl, ap, ◌∙◌, append_assoc, append-nil, arith, length-append}
 use Rattle.std.specs.Option.{option_map, option_and_then}
 use Rattle.std.proofs.lemmas.List.{at_drop_more, take_rest, take_all}
-use Rattle.script.specs.Text.{parts, add_digit, add_digits, number, octet, octets}
+use Rattle.script.specs.Text.{first_part, other_parts, parts, add_digit, add_digits, number, octet, octets}
 use Rattle.std.proofs.lemmas.Bool.Decides.{nat_tests}
 use Rattle.vocabulary.specs.Octets.{sized}
 use Rattle.script.specs.Grammar.{numbers}
@@ -41,6 +41,27 @@ uncut xs e = step (ltb (position_or_len blank xs) (length xs)) refl e
     step false h q =
         let end = ltb-false _ _ h in
         slice_split_none blank xs (All-from_get_or (λ c. blank c ≡ false) xs 0 (λ k l. fails_before_first blank xs k 0 (omega arith)))
+
+-- the parts are the first and the others
+pub parted : (xs : List ℕ) → parts xs ≡ first_part xs ∷ other_parts xs
+parted [] = refl
+parted (c ∷ cs) = step (blank c) refl (parted cs)
+  where
+    step : (b : Bool) → blank c ≡ b → parts cs ≡ first_part cs ∷ other_parts cs → parts (c ∷ cs) ≡ first_part (c ∷ cs) ∷ other_parts (c ∷ cs)
+    step true h e = grind arith
+    step false h e = grind arith
+
+-- what is cut off is the first part, and no longer than the text
+pub first_of : (xs p : List ℕ) (ps : List (List ℕ)) → parts xs ≡ p ∷ ps → p ≡ first_part xs
+first_of xs p ps e = let w = parted xs in cc
+
+pub first_within : (xs : List ℕ) → length (first_part xs) ≤ length xs
+first_within [] = omega arith
+first_within (c ∷ cs) = step (blank c) refl (first_within cs)
+  where
+    step : (b : Bool) → blank c ≡ b → length (first_part cs) ≤ length cs → length (first_part (c ∷ cs)) ≤ length (c ∷ cs)
+    step true h e = grind arith
+    step false h e = grind arith
 
 -- each digit that fits leads on
 digits_on : {F : Type 0} (R : F × ℕ → Bor ℕ → F × ℕ → Type 0) → ((p q : F × ℕ) (x : Bor ℕ) → R p x q → add_digit p.1 x.now ≡ Some q.1)

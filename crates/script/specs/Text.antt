@@ -7,6 +7,16 @@ use Rattle.std.specs.Option.{option_map, option_and_then}
 abbrev pub parts : List ℕ → List (List ℕ)
 parts line = slice_split (λ c. c == 32) line
 
+-- The first of them: all up to the first blank.
+abbrev pub first_part : List ℕ → List ℕ
+first_part [] = []
+first_part (c ∷ cs) = cond (c == 32) [] (c ∷ first_part cs)
+
+-- The others, one behind each blank.
+abbrev pub other_parts : List ℕ → List (List ℕ)
+other_parts [] = []
+other_parts (c ∷ cs) = cond (c == 32) (first_part cs ∷ other_parts cs) (other_parts cs)
+
 -- A number, with a digit more: none if the character is no digit, 48 to 57, or the number passes 65535.
 abbrev pub add_digit : ℕ → ℕ → Option ℕ
 add_digit value c = cond (nat_le 48 c && (nat_le c 57 && nat_le (10 * value + (c - 48)) 65535)) (Some (10 * value + (c - 48))) None

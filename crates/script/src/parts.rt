@@ -1,7 +1,7 @@
 // The parts of a line.
-ghost use Rattle.std.specs.Prelude.{◌≡◌, ◌∷◌, ◌==◌, position};
+ghost use Rattle.std.specs.Prelude.{◌≡◌, ◌≤◌, ◌∷◌, ◌==◌, length, position};
 ghost use Rattle.std.specs.Iterator.{YieldsFirstRef, item_count};
-ghost use Rattle.script.specs.Text.{parts};
+ghost use Rattle.script.specs.Text.{first_part, parts};
 ghost use Rattle.script.specs.Meaning.{behind, to_come};
 
 // What parts a line from what stands before it.
@@ -11,7 +11,7 @@ const BLANK: u8 = b' ';
 // `rest` is the text that begins with the next one.
 #[derive(Clone, Copy)]
 pub struct Parts<'a> {
-    rest: Option<&'a [u8]>,
+    pub rest: Option<&'a [u8]>,
 }
 
 // Where the first blank stands.
@@ -30,6 +30,14 @@ fn cut(text: &[u8]) -> (&[u8], Option<&[u8]>)
         Some(end) => (&text[..end], Some(&text[end + 1..])),
         None => (text, None),
     }
+}
+
+// The first part of a text.
+pub fn first_part(text: &[u8]) -> &[u8]
+    ensures value { result.now ≡ first_part text.now }
+    ensures within { length result.now ≤ length text.now }
+{
+    cut(text).0
 }
 
 impl<'a> Parts<'a> {

@@ -1,8 +1,8 @@
 // A few octets, held by value.
-ghost use Rattle.std.specs.Prelude.{◌≡◌, ◌≤◌, length, Some};
+ghost use Rattle.std.specs.Prelude.{◌≡◌, ◌<◌, ◌≤◌, length, Some};
 ghost use Rattle.std.specs.Option.{option_map};
 ghost use Rattle.few.specs.Few.{held};
-ghost use Rattle.vocabulary.specs.Hex.{hex};
+ghost use Rattle.vocabulary.specs.Hex.{hex, hex_digit};
 
 use few::Few;
 use std::fmt;
@@ -33,8 +33,9 @@ impl<'a, const N: usize> TryFrom<&'a [u8]> for Octets<N> {
         if octets.is_empty() {
             return Err(WrongSize);
         }
-        let octets = Few::try_from(octets).map_err(|_| WrongSize)?;
-        Ok(Octets { octets })
+        let mut held = Few::new();
+        held.fill(octets).map_err(|_| WrongSize)?;
+        Ok(Octets { octets: held })
     }
 }
 
@@ -56,6 +57,18 @@ impl<const N: usize> Octets<N> {
     }
 }
 
+// A hexadecimal digit, in capitals. `{:02X}` for each octet takes half as long again for a program that prints many.
+fn hex_digit(value: u8) -> char
+    requires { value < 16 }
+    ensures { result ≡ hex_digit value }
+{
+    if value < 10 {
+        char::from(b'0' + value)
+    } else {
+        char::from(b'A' - 10 + value)
+    }
+}
+
 // Two digits for each octet, unspaced.
 impl<const N: usize> fmt::Display for Octets<N> {
     ghost use Rattle.vocabulary.specs.Octets.{octets_of};
@@ -64,7 +77,9 @@ impl<const N: usize> fmt::Display for Octets<N> {
 
     fn fmt<W: fmt::Write>(&self, f: &mut fmt::Formatter<W>) -> fmt::Result {
         for octet in self.as_slice() {
-            write!(f, "{octet:02X}")?;
+            let high = hex_digit(*octet / 16);
+            let low = hex_digit(*octet % 16);
+            write!(f, "{high}{low}")?;
         }
         Ok(())
     }

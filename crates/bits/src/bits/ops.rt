@@ -39,6 +39,15 @@ impl<'a> Bits<'a> {
         self.len
     }
 
+    // The octets in which they lie (borrowed, not copied), and the bit of the first of these at which they start.
+    #[tactic(auto, using(crate::proofs::BitLaws::length_lying))]
+    pub fn place(&self) -> (&'a [u8], usize)
+        ensures bits { stretch result.0.now result.1 (length (bits self.now)) ≡ bits self.now }
+        ensures first { result.1 < 8 }
+    {
+        (self.octets, self.offset)
+    }
+
     // The first n of them and those behind, if there are so many.
     #[tactic(auto, using(crate::proofs::BitLaws::length_lying, crate::proofs::BitLaws::front_lying, crate::proofs::BitLaws::back_lying))]
     pub fn split_at(&self, n: usize) -> Option<(Bits<'a>, Bits<'a>)>
