@@ -58,7 +58,9 @@ impl Intake {
         if self.octets.is_empty() {
             return None;
         }
-        Some(self.end())
+        let event = Event::try_from(self.octets.as_slice());
+        self.clear();
+        Some(event)
     }
 
     // One octet more, while an event more can wait.
@@ -70,7 +72,7 @@ impl Intake {
         ensures lender { loan ahead.new ≡ loan ahead.old }
     {
         if octet == LINE_FEED {
-            let _ = ahead.put(self.end());
+            self.end_line(ahead);
         } else {
             self.add(octet);
         }
@@ -84,13 +86,23 @@ impl Intake {
         let _ = self.octets.push(octet);
     }
 
-    // The line is over: what it says, if it is readable. The next line begins.
-    fn end(&mut self) -> Result<Event, Unreadable>
-        ensures value { says result ≡ reading (so_far self.old) }
-        ensures after { so_far self.new ≡ [] }
+    // The line is over: what it says waits behind the others, and the next line begins. An event is made here, as the place for it
+    // would be cleared for each octet in `take_octet`.
+    fn end_line(&mut self, ahead: &mut Line<Result<Event, Unreadable>>)
+        requires { 0 < room ahead.old }
+        ensures waiting { heard ahead.new ≡ heard ahead.old ++ (reading (so_far self.old) ∷ []) }
+        ensures rest { so_far self.new ≡ [] }
+        ensures places { room ahead.new + 1 ≡ room ahead.old }
+        ensures lender { loan ahead.new ≡ loan ahead.old }
     {
-        let event = Event::try_from(self.octets.as_slice());
+        let _ = ahead.put(Event::try_from(self.octets.as_slice()));
+        self.clear();
+    }
+
+    // Nothing again: the next line begins.
+    fn clear(&mut self)
+        ensures { so_far self.new ≡ [] }
+    {
         self.octets.clear();
-        event
     }
 }

@@ -1,5 +1,5 @@
 -- One frame more that is put, and the log that comes of all.
-use Rattle.std.proofs.Common.{◌≡◌, ℕ, zero, suc, ◌+◌, ◌*◌, ◌/◌, ◌<◌, ◌≤◌, true, List, [], ◌∷◌, ◌++◌, length, take, drop, Ok, Err, sym, refl, ap, ◌∙◌, append_assoc, arith}
+use Rattle.std.proofs.Common.{◌≡◌, ℕ, zero, suc, ◌+◌, ◌*◌, ◌<◌, ◌≤◌, true, List, [], ◌∷◌, ◌++◌, length, take, drop, Ok, Err, sym, refl, ap, ◌∙◌, append_assoc, arith}
 use Rattle.std.specs.List.{flat_map}
 use Rattle.std.proofs.lemmas.List.{drop-drop, length_push}
 use Rattle.std.proofs.lemmas.Bool.{le-leb}
@@ -43,7 +43,7 @@ pub ruleset putting = (open_count, frame_size_lem, behind_put, size_put)
 
 -- A log that was read: how long it is, and where it has no room.
 pub read_size : (log : ClosedLog) → closed_octets log ≡ log_of (closed_frames log) → length (closed_octets log) ≡ 17 * length (closed_frames log) + 8
-read_size log h = ap length h ∙ length_log (closed_frames log) (up_sized (length (closed_octets log) / 17) (closed_octets log))
+read_size log h = ap length h ∙ length_log (closed_frames log) (up_sized log.count (closed_octets log))
 
 pub no_room : (octets : ℕ) (log : ClosedLog) → closed_octets log ≡ log_of (closed_frames log) → octets < length (closed_octets log) → into_octets octets (Ok (closed_frames log)) ≡ Err full_fault
 no_room octets log h l =

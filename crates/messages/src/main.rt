@@ -27,7 +27,7 @@ fn show(rt: &HostRuntime, packet: &Packet) -> io::Result<()> {
         Packet::Order(state) => print!(rt; " order {state}"),
         Packet::Report(state) => print!(rt; " report {state}"),
         Packet::TripNotice => print!(rt; " trip notice"),
-        Packet::Other { start, bits } => {
+        Packet::Other { start, bits, .. } => {
             let len = bits.len();
             print!(rt; " unread {len} bits from bit {start}")
         }

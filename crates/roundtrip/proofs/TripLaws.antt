@@ -63,7 +63,7 @@ under_encode trip (packet.Request a) = under_packed 13 25 (field 4 a) (under_fie
 under_encode trip (packet.Order a) = under_packed 14 25 (field 4 a) (under_field 4 a)
 under_encode trip (packet.Report a) = under_packed 15 25 (field 4 a) (under_field 4 a)
 under_encode trip packet.TripNotice = under_packed trip 21 [] tt
-under_encode trip (packet.Other s b) = under_lying b.octets.now b.offset b.len b.lies
+under_encode trip (packet.Other os s b) = under_lying b.octets.now b.offset b.len b.lies
 
 pub under_body : (trip : ℕ) (ps : List Packet) → AllBelowBase 2 (body_of trip (map content ps))
 under_body trip [] = tt

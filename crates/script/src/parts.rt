@@ -33,6 +33,7 @@ fn cut(text: &[u8]) -> (&[u8], Option<&[u8]>)
 }
 
 // The first part of a text.
+#[tactic(auto, using(crate::proofs::Reading::first_of, crate::proofs::Reading::first_within))]
 pub fn first_part(text: &[u8]) -> &[u8]
     ensures value { result.now ≡ first_part text.now }
     ensures within { length result.now ≤ length text.now }

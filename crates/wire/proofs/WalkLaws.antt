@@ -2,12 +2,12 @@
 use Rattle.std.proofs.Common.{◌≡◌, ℕ, zero, suc, ◌+◌, ◌<◌, ◌≤◌, true, cond, List, [], length, drop, Some, None, Option, Ok, Err, Result, sym, refl, ap, ◌∙◌, le_refl, arith, length-drop}
 use Rattle.std.proofs.lemmas.Bool.{cond-true, cond-false, cond_both, lt-ltb, le-ltb, ltb-false}
 use Rattle.vocabulary.specs.declared.fault.Fault.{Fault}
-use Rattle.wire.specs.Packets.{Content, content, kind_in, may_have, content_in, length_in, read_packet, told}
+use Rattle.wire.specs.Packets.{Content, content, kind_in, may_have, content_in, length_in, read_packet, told, HandsOn, StartsAt}
 use Rattle.wire.specs.Messages.{Walk, ended, before, walk, walked}
-use Rattle.std.specs.Iterator.{YieldsFirstBy, MakesProgress, item_count}
-use Rattle.std.specs.Result.{MatchResult, result_ok}
+use Rattle.std.specs.Iterator.{MakesProgress, item_count}
+use Rattle.std.specs.Result.{IfOk, MatchResult, result_ok}
 use Rattle.wire.specs.Readers.{left, Past}
-use Rattle.wire.specs.Walkers.{ahead}
+use Rattle.wire.specs.Walkers.{Step, ahead, walk_octets}
 use Rattle.wire.specs.declared.packet.Packet.{Packet}
 use Rattle.wire.specs.declared.message.Packets.{Packets}
 use Rattle.vocabulary.specs.Settings.{trip_of}
@@ -86,11 +86,11 @@ no_walk w e h q = ap (λ x. x.packets) (walked_wrong (trip_of w.trip) w.at (left
 
 -- one call of `next` behind the padding's test
 pub next_gives : (w w' : Packets) (r : Result Packet Fault) → 8 ≤ length (left w) → told r ≡ read_packet (trip_of w.trip) w.at (left w) → MatchResult r (λ _. Past w w') (λ _. w' ≡ w) →
-    YieldsFirstBy content ahead w (result_ok r) w'
-next_gives w w' (Ok p) h q e = ap (λ x. x.packets) (past_walk w w' (content p) h (sym q) e)
-next_gives w w' (Err f) h q e = let none = no_walk w f h (sym q) in (none, ap ahead e ∙ none)
+    IfOk r (StartsAt w.at) → IfOk r (HandsOn (walk_octets w)) → walk_octets w' ≡ walk_octets w → Step w (result_ok r) w'
+next_gives w w' (Ok p) h q e s u o = record { first = ap (λ x. x.packets) (past_walk w w' (content p) h (sym q) e); unread = (s, u); octets = o; past = e }
+next_gives w w' (Err f) h q e s u o = let none = no_walk w f h (sym q) in record { first = (none, ap ahead e ∙ none); unread = tt; octets = o; past = tt }
 
 -- and what is left grows less by what comes
-pub next_goes : (w w' : Packets) (r : Option Packet) → YieldsFirstBy content ahead w r w' → MakesProgress (λ _. Unit {0}) (item_count ahead) w r w'
-next_goes w w' (Some p) e = record { on = λ f. (tt, f, omega (arith, ap length e)); keeps = tt; rests = λ _. tt }
-next_goes w w' None e = record { on = λ _. tt; keeps = tt; rests = λ f. f }
+pub next_goes : (w w' : Packets) (r : Option Packet) → Step w r w' → MakesProgress (λ _. Unit {0}) (item_count ahead) w r w'
+next_goes w w' (Some p) s = record { on = λ f. (tt, f, omega (arith, ap length s.first)); keeps = tt; rests = λ _. tt }
+next_goes w w' None s = record { on = λ _. tt; keeps = tt; rests = λ f. f }

@@ -5,7 +5,7 @@ use Rattle.vocabulary.specs.Refusals.{fault_at}
 use Rattle.vocabulary.specs.declared.fault.Fault.{Fault}
 use Rattle.vocabulary.specs.declared.fault.Layer.TheVariants as layer
 use Rattle.vocabulary.specs.declared.fault.Refusal.TheVariants as refusal
-use Rattle.bits.specs.Bits.{value_at}
+use Rattle.bits.specs.Bits.{stretch, value_at}
 use Rattle.bits.specs.Pieces.{bits}
 use Rattle.wire.specs.Kinds.{kind_number, kind_length, kinds}
 use Rattle.wire.specs.declared.kind.Kind.{Kind}
@@ -31,12 +31,17 @@ content (packet.Request state) = request state
 content (packet.Order state) = order state
 content (packet.Report state) = report state
 content packet.TripNotice = notice
-content (packet.Other start b) = other (bits b)
+content (packet.Other octets start b) = other (bits b)
 
 -- An unread packet tells the bit of its message at which it starts.
 abbrev pub StartsAt : ℕ → Packet → Type 0
-StartsAt at (packet.Other start b) = start ≡ at
+StartsAt at (packet.Other octets start b) = start ≡ at
 StartsAt at p = Unit {0}
+
+-- An unread packet hands on the octets of its message, and its bits stand in these from that bit on.
+abbrev pub HandsOn : List ℕ → Packet → Type 0
+HandsOn s (packet.Other octets start b) = (octets.now ≡ s) × (stretch s start (length (bits b)) ≡ bits b)
+HandsOn s p = Unit {0}
 
 -- A packet begins with its number (8 bits) and its length (13 bits), which counts all of its bits.
 abbrev pub number_in : List ℕ → ℕ

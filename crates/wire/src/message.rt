@@ -1,6 +1,7 @@
 // Messages.
-ghost use Rattle.std.specs.Prelude.{◌≡◌, ◌+◌, ◌≤◌, length, None};
+ghost use Rattle.std.specs.Prelude.{◌≡◌, ◌+◌, ◌≤◌, length, drop, None};
 ghost use Rattle.vocabulary.specs.Settings.{trip_of};
+ghost use Rattle.bits.specs.Bits.{bits_of};
 ghost use Rattle.bits.specs.Pieces.{bits};
 ghost use Rattle.wire.specs.Messages.{walked};
 
@@ -27,15 +28,18 @@ pub const COUNT: usize = 1;
 pub struct Message<'a> {
     sender: u8,
     packets: Packets<'a>,
+    ghost begins: { packets.at ≡ 16 },
     ghost right: { (walked (trip_of packets.trip) packets.at (bits packets.left)).stop ≡ None },
 }
 
-// A walk over the packets of a message: the bits that are left, the bit of the message at which they start, and the
-// number that a trip notice has in it.
+// A walk over the packets of a message: the message's octets, the bit of these at which what is left starts, the bits
+// that are left, and the number that a trip notice has in it.
 #[derive(Clone, Copy)]
 pub struct Packets<'a> {
+    octets: &'a [u8],
     at: usize,
     left: Bits<'a>,
     trip: TripNumber,
     ghost small: { at + length (bits left) ≤ 2040 },
+    ghost behind: { bits left ≡ drop at (bits_of octets.now) },
 }

@@ -21,9 +21,15 @@ pub const STATE: usize = 4;
 #[derive(Clone, Copy)]
 pub enum Packet<'a> {
     // STM-1: the version of the interface that the sender speaks.
-    Version { major: u8, minor: u8 },
+    Version {
+        major: u8,
+        minor: u8,
+    },
     // STM-5: the level and the mode of the on-board.
-    Status { level: u8, mode: u8 },
+    Status {
+        level: u8,
+        mode: u8,
+    },
     // STM-13: the state that the STM asks for.
     Request(u8),
     // STM-14: the state that the STM is ordered to.
@@ -32,6 +38,10 @@ pub enum Packet<'a> {
     Report(u8),
     // The National Trip Procedure.
     TripNotice,
-    // Any other packet, unread: the bit of its message at which it starts, and its bits.
-    Other { start: usize, bits: Bits<'a> },
+    // Any other packet, unread: the octets of its message, the bit of these at which it starts, and its bits.
+    Other {
+        octets: &'a [u8],
+        start: usize,
+        bits: Bits<'a>,
+    },
 }

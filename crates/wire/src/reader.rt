@@ -1,8 +1,8 @@
 // A packet in its bits.
 ghost use Rattle.std.specs.Prelude.{◌≡◌, ◌+◌, ◌<◌, ◌≤◌, true, length, MatchOption};
-ghost use Rattle.bits.specs.Bits.{value_at};
+ghost use Rattle.bits.specs.Bits.{stretch, value_at};
 ghost use Rattle.bits.specs.Pieces.{bits};
-ghost use Rattle.wire.specs.Packets.{may_have, content, content_in, StartsAt};
+ghost use Rattle.wire.specs.Packets.{may_have, content, content_in, HandsOn, StartsAt};
 ghost use Rattle.wire.specs.Readers.{Headed};
 
 use crate::kind::Kind;
@@ -33,11 +33,18 @@ fn field(packet: &Bits, from: usize, n: usize) -> u8
     packet.number(from, n).unwrap() as u8
 }
 
-// What a packet says that starts at that bit of its message, once its number and its length are found right.
-pub(crate) fn body<'a>(kind: Option<Kind>, start: usize, packet: &Bits<'a>) -> Packet<'a>
-    requires { (21 ≤ length (bits packet.now)) × (may_have kind (length (bits packet.now)) ≡ true) }
+// What a packet says that starts at that bit of its message's octets, once its number and its length are found right.
+pub(crate) fn body<'a>(
+    kind: Option<Kind>,
+    octets: &'a [u8],
+    start: usize,
+    packet: &Bits<'a>,
+) -> Packet<'a>
+    requires packet { (21 ≤ length (bits packet.now)) × (may_have kind (length (bits packet.now)) ≡ true) }
+    requires stands { stretch octets.now start (length (bits packet.now)) ≡ bits packet.now }
     ensures content { content result ≡ content_in kind (length (bits packet.now)) (bits packet.now) }
     ensures start { StartsAt start result }
+    ensures unread { HandsOn octets.now result }
 {
     match kind {
         Some(Kind::Version) => Packet::Version {
@@ -53,6 +60,7 @@ pub(crate) fn body<'a>(kind: Option<Kind>, start: usize, packet: &Bits<'a>) -> P
         Some(Kind::Report) => Packet::Report(field(packet, HEADER, STATE)),
         Some(Kind::TripNotice) => Packet::TripNotice,
         None => Packet::Other {
+            octets,
             start,
             bits: *packet,
         },

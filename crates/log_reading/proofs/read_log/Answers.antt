@@ -1,7 +1,6 @@
 use Rattle.std.proofs.Common.{ℕ, ◌<◌, ◌-◌, ◌*◌, ◌≡◌, ◌+◌, ◌++◌, get_or, length, take, drop, Ok, Err, sym, ap, ◌∙◌, arith, rules}
 use Rattle.std.proofs.lemmas.List.{take_rest}
 use Rattle.log_format.specs.Format.{log_of}
-use Rattle.log_format.specs.Reading.{frames_of_log}
 use Rattle.log_reading.proofs.Files.{at_end, granted, same, wrong_entry}
 use Rattle.log_reading.proofs.read_log.Goals as goal
 
@@ -26,10 +25,10 @@ returns-in-None c =
     let e = c.new.ensures in
     let r = c.wrong_entry in
     record {
-      answer = ap (λ os. Ok (frames_of_log os)) e.log ∙ granted file b.trailer.now t n size (search rules) (search rules) log (take_rest file start) r.result r.ensures.first c.in-None.is small;
+      answer = ap Ok e.frames ∙ granted file b.trailer.now t n size (search rules) (search rules) log (take_rest file start) r.result r.ensures.first c.in-None.is small;
       log = record {
         inside = e.octets;
         last = ap (λ os. take (length file - length os) file ++ os) e.log ∙ at_end file b.trailer.now t n size (search rules) (search rules) log (take_rest file start) r.result r.ensures.first c.in-None.is small;
-        same = e.log ∙ same file b.trailer.now t n size (search rules) (search rules) log (take_rest file start) r.result r.ensures.first c.in-None.is small ∙ ap (λ os. log_of (frames_of_log os)) (sym e.log);
+        same = e.log ∙ same file b.trailer.now t n size (search rules) (search rules) log (take_rest file start) r.result r.ensures.first c.in-None.is small ∙ ap log_of (sym e.frames);
       };
     }

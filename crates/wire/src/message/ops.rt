@@ -1,9 +1,9 @@
 // Reading a message, and walking over its packets.
-ghost use Rattle.std.specs.Prelude.{◌≡◌};
+ghost use Rattle.std.specs.Prelude.{◌≡◌, IfOk};
 ghost use Rattle.std.specs.Result.{result_err};
 ghost use Rattle.vocabulary.specs.Settings.{trip_of};
 ghost use Rattle.wire.specs.Messages.{read_message, size_fault, wrong_length};
-ghost use Rattle.wire.specs.Walkers.{reading, heard, ahead};
+ghost use Rattle.wire.specs.Walkers.{reading, heard, ahead, message_octets, walk_octets, walk_start};
 
 use super::{COUNT, LEAST, MOST, Message, Packets, SENDER};
 use vocabulary::fault::{Fault, Layer, Refusal};
@@ -35,7 +35,8 @@ impl<'a> Message<'a> {
     // Octets as a message, in which a trip notice has the number `trip`. All packets are checked. Octets and trip number are no
     // struct, here and where messages are written: the octets come and go, and the number is a setting.
     pub fn read(octets: &'a [u8], trip: TripNumber) -> Result<Message<'a>, Fault>
-        ensures { heard result ≡ read_message (trip_of trip) octets.now }
+        ensures answer { heard result ≡ read_message (trip_of trip) octets.now }
+        ensures octets { IfOk result (λ m. message_octets m ≡ octets.now) }
     {
         check_length(octets)?;
         let packets = Packets::over(octets, trip);
@@ -55,7 +56,9 @@ impl<'a> Message<'a> {
 
     // A walk over its packets, from the first on.
     pub fn packets(&self) -> Packets<'a>
-        ensures { ahead result ≡ (reading self.now).packets }
+        ensures packets { ahead result ≡ (reading self.now).packets }
+        ensures octets { walk_octets result ≡ message_octets self.now }
+        ensures start { walk_start result ≡ 16 }
     {
         self.packets
     }

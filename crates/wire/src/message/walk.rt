@@ -1,12 +1,12 @@
 // Walking over the packets of a message.
 ghost use Rattle.std.specs.Prelude.{◌≡◌, ◌≤◌, length, nat_lt, IfOk, MatchResult};
-ghost use Rattle.std.specs.Iterator.{YieldsFirstBy, item_count};
+ghost use Rattle.std.specs.Iterator.{item_count};
 ghost use Rattle.std.specs.Result.{result_err};
 ghost use Rattle.vocabulary.specs.Settings.{trip_of};
 ghost use Rattle.wire.specs.Messages.{walked, body_bits};
-ghost use Rattle.wire.specs.Packets.{content, read_packet, told, StartsAt};
+ghost use Rattle.wire.specs.Packets.{read_packet, told, HandsOn, StartsAt};
 ghost use Rattle.wire.specs.Readers.{left, Past};
-ghost use Rattle.wire.specs.Walkers.{ahead};
+ghost use Rattle.wire.specs.Walkers.{Step, ahead, walk_octets};
 
 use super::{HEAD, Packets};
 use crate::kind::Kind;
@@ -26,8 +26,10 @@ impl<'a> Packets<'a> {
         ensures bits { left result ≡ body_bits octets.now }
         ensures at { result.at ≡ 16 }
         ensures trip { result.trip ≡ trip }
+        ensures octets { walk_octets result ≡ octets.now }
     {
         Packets {
+            octets,
             at: BODY,
             left: Bits::new(octets, BODY, (OCTET * octets.len()).saturating_sub(BODY)),
             trip,
@@ -45,6 +47,8 @@ impl<'a> Packets<'a> {
     fn packet(&mut self) -> Result<Packet<'a>, Fault>
         ensures answer { told result ≡ read_packet (trip_of self.old.trip) self.old.at (left self.old) }
         ensures start { IfOk result (StartsAt self.old.at) }
+        ensures unread { IfOk result (HandsOn (walk_octets self.old)) }
+        ensures octets { walk_octets self.new ≡ walk_octets self.old }
         ensures past { MatchResult result (λ _. Past self.old self.new) (λ _. self.new ≡ self.old) }
     {
         let cut = Fault::new(Refusal::PacketCut, self.at, Layer::Packet);
@@ -61,7 +65,7 @@ impl<'a> Packets<'a> {
         let start = self.at;
         self.at += length;
         self.left = rest;
-        Ok(body(kind, start, &packet))
+        Ok(body(kind, self.octets, start, &packet))
     }
 
     // All packets that are left are right, or the first that is wrong is refused. What a call refuses ends it, so this is a
@@ -79,7 +83,7 @@ impl<'a> Packets<'a> {
 impl<'a> Iterator for Packets<'a> {
     type Item = Packet<'a>;
 
-    ghost next_gives = { YieldsFirstBy content ahead };
+    ghost next_gives = { Step };
 
     ghost remaining = { item_count ahead };
 

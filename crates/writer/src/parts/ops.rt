@@ -48,7 +48,7 @@ impl<'a> Parts<'a> {
             Packet::Order(state) => Parts::Known(Kind::Order, field(state, STATE), NONE),
             Packet::Report(state) => Parts::Known(Kind::Report, field(state, STATE), NONE),
             Packet::TripNotice => Parts::Known(Kind::TripNotice, NONE, NONE),
-            Packet::Other { start: _, bits } => Parts::Unread(bits),
+            Packet::Other { bits, .. } => Parts::Unread(bits),
         }
     }
 

@@ -16,7 +16,7 @@ refused : (c : In_err-add) → rewritten (trip_of c.args.trip) c.args.message.no
 refused c =
     let a = c.in_err-add.ensures in
     let w = c.loop-packet.writer in
-    c.loop-packet.invariant.0 ∙ ap (λ l. sent l (draft w)) c.in-Some.ensures.steps
+    c.loop-packet.invariant.0 ∙ ap (λ l. sent l (draft w)) c.in-Some.ensures.steps.first
     ∙ refuses (content c.in-Some.packet) (ahead c.next.new.self) (draft w) _ a.answer
     ∙ ap (λ (d : Draft). record { answer = Err c.in_err-add.field-0.0; buffer = d.buffer }) (sym a.draft)
 
