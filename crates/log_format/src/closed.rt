@@ -8,8 +8,8 @@ ghost use Rattle.log_format.specs.Reading.{frames_of_log};
 use crate::{ENTRY, read_entry};
 use vocabulary::octets::Frame;
 
-// All octets in which the log lies, those of the log itself, from its first entry to its trailer's end,
-// and how many entries it has.
+// All octets in which the log lies, those of the log itself, from its first entry to its trailer's end, and how many of its
+// entries are played at most: a log of which only the first are played is a value too.
 #[derive(Drop)]
 pub struct ClosedLog<'a> {
     pub octets: &'a [u8],
@@ -17,7 +17,7 @@ pub struct ClosedLog<'a> {
     pub count: usize,
 }
 
-// A closed log that is being played: what is left of it, and how many entries that has.
+// A closed log that is being played: what is left of it, and how many entries of that are played at most.
 #[derive(Drop)]
 pub struct Playing<'a> {
     rest: &'a [u8],
